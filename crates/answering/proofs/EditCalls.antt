@@ -18,13 +18,9 @@ use Rattle.board.specs.Laws.{BoardIs, sheet_with}
 use Rattle.board.proofs.Board.{ready, is_board}
 use Rattle.tables.specs.declared.Counts.{Counts}
 use Rattle.tables.proofs.Tables.{kept_then}
-use Rattle.reader.specs.declared.SheetRead.{SheetRead}
-use Rattle.reader.specs.declared.SheetRead.TheVariants as sheet
 use Rattle.rules.specs.Accepted.{Accepted}
 use Rattle.board_words.specs.Layout.{board_words, BoardLies}
 use Rattle.board_words.proofs.Found.{layout, board_lies, ends_lie}
-use Rattle.editing.specs.declared.Edited.{Edited}
-use Rattle.editing.specs.declared.Edited.TheVariants as code
 use Rattle.editing.specs.Edited.{SaysEdit, written, refused, VerdictsLie, EditsBoard}
 use Rattle.opening.specs.declared.Answer.{Answer}
 use Rattle.opening.specs.Answers.{answer_of}
@@ -32,25 +28,28 @@ use Rattle.opening.specs.Parts.{OpensAs, opened, OpensText, GivesAnswer, written
 use Rattle.opening.proofs.Answers.{gives_refusal}
 use Rattle.answering.specs.Editing.{EditsOn, edit_verdict, LeavesEdit}
 use Rattle.answering.proofs.MakeCalls.{never_none, not_laid}
+use Rattle.std.specs.Prelude.{Result, Ok, Err}
+use Rattle.memory.specs.Refusals.{number}
+use Rattle.memory.specs.declared.refusals.Refused.{Refused}
 
 -- ---- what an edit comes to
 
-module _ {a : Answer} {e : Edited} where
-  pub edit_written : {n k : ℕ} → e ≡ code.Written n k → a ≡ written_to n k → (v : Verdict) → SaysEdit e v → a ≡ answer_of v
+module _ {a : Answer} {e : Result (ℕ × ℕ) Refused} where
+  pub edit_written : {n k : ℕ} → e ≡ Ok (n, k) → a ≡ written_to n k → (v : Verdict) → SaysEdit e v → a ≡ answer_of v
   edit_written {n} {k} q p v z = by v (rw q at z)
     where
-      by : (v : Verdict) → SaysEdit (code.Written n k) v → a ≡ answer_of v
+      by : (v : Verdict) → SaysEdit (Ok (n, k)) v → a ≡ answer_of v
       by _ (written b l) = rw l at p
 
-  pub edit_refused : {n k : ℕ} → e ≡ code.Refused n k → a ≡ answer_of (refusal_at n k) → (v : Verdict) → SaysEdit e v → a ≡ answer_of v
-  edit_refused {n} {k} q p v z = by v (rw q at z)
+  pub edit_refused : {x : Refused} → e ≡ Err x → a ≡ answer_of (refusal_at (number x.refusal) x.place) → (v : Verdict) → SaysEdit e v → a ≡ answer_of v
+  edit_refused {x} q p v z = by v (rw q at z)
     where
-      by : (v : Verdict) → SaysEdit (code.Refused n k) v → a ≡ answer_of v
+      by : (v : Verdict) → SaysEdit (Err x) v → a ≡ answer_of v
       by _ refused = p
 
 -- ---- on an accepted sheet
 
-pub edits_on : {line : Bytes} {st : Counts} {u0 v0 w1 u2 v2 words board : List ℕ} {out after : Bytes} {e : Edited} {a : Answer}
+pub edits_on : {line : Bytes} {st : Counts} {u0 v0 w1 u2 v2 words board : List ℕ} {out after : Bytes} {e : Result (ℕ × ℕ) Refused} {a : Answer}
     → EditsBoard line st u0 v0 w1 u2 v2 words board out after e → ((v : Verdict) → SaysEdit e v → a ≡ answer_of v)
     → EditsOn line st u0 v0 w1 u2 v2 words board out after a
 edits_on d q = record {
@@ -90,8 +89,8 @@ module _ (text : Bytes) (t : AcceptedSheet text) (es : List Edit) (b : Board) (k
 
 -- ---- after a text is opened
 
-module _ {text : Bytes} {w0 w1 w2 v0 v1 v2 : List ℕ} {z : SheetRead} {a : Answer} (t : OpensText text z w0 w1 w2 v0 v1 v2) (line : Bytes) where
-  pub edit_given : {st : Counts} {x0 x2 words board : List ℕ} {out after : Bytes} → z ≡ sheet.Sheet st → EditsOn line st v0 x0 v1 v2 x2 words board out after a
+module _ {text : Bytes} {w0 w1 w2 v0 v1 v2 : List ℕ} {z : Result Counts Refused} {a : Answer} (t : OpensText text z w0 w1 w2 v0 v1 v2) (line : Bytes) where
+  pub edit_given : {st : Counts} {x0 x2 words board : List ℕ} {out after : Bytes} → z ≡ Ok st → EditsOn line st v0 x0 v1 v2 x2 words board out after a
       → LeavesEdit text line a w0 w1 w2 words out x0 v1 x2 board after
   edit_given {st} {x0} {x2} {words} {board} {out} {after} e d = record {
     gives = λ es b k i. gives es b k i (subst (OpensAs text v0 v1 v2) e t.is);
@@ -106,22 +105,22 @@ module _ {text : Bytes} {w0 w1 w2 v0 v1 v2 : List ℕ} {z : SheetRead} {a : Answ
       sheet_of : (s : Sheet) (ts : List Ty) → read_text text ≡ accepted s → Accepted st v0 v1 s ts → AcceptedSheet text
       sheet_of s ts q h = record { sheet = s; is = q; defined = h.defined; typing = record { types = ts; all = h.typed } }
 
-      gives : (es : List Edit) (b : Board) → After (sheet_in text) es b → Holds layout b (record { words = words; out = out }) → OpensAs text v0 v1 v2 (sheet.Sheet st)
+      gives : (es : List Edit) (b : Board) → After (sheet_in text) es b → Holds layout b (record { words = words; out = out }) → OpensAs text v0 v1 v2 (Ok st)
           → GivesAnswer (edit_verdict text line b (length out)) a out after
       gives es b k i (opened s ts q h w) =
           let c = sheet_of s ts q h in
           rw (on_accepted_lem text c (λ s ts. edit_on (length out) s b (read_edit line))) (d.gives s ts h b (slots_lie text c es b k i) (verdicts_lie text c es b k i h))
 
-      laid : (es : List Edit) (b : Board) → After (sheet_in text) es b → Holds layout b (record { words = words; out = out }) → OpensAs text v0 v1 v2 (sheet.Sheet st)
+      laid : (es : List Edit) (b : Board) → After (sheet_in text) es b → Holds layout b (record { words = words; out = out }) → OpensAs text v0 v1 v2 (Ok st)
           → board ≡ board_after (edit_verdict text line b (length out)) (board_words (after_line (sheet_in text) b (read_edit line))) words
       laid es b k i (opened s ts q h w) =
           let c = sheet_of s ts q h in
           rw (on_accepted_lem text c (λ s ts. edit_on (length out) s b (read_edit line)), sheet_is text s q)
           (d.laid s ts h b (slots_lie text c es b k i) (verdicts_lie text c es b k i h))
 
-  pub edit_stopped : {n k : ℕ} (words : List ℕ) (out : Bytes) → z ≡ sheet.Refused n k → a ≡ answer_of (refusal_at n k) → LeavesEdit text line a w0 w1 w2 words out v0 v1 v2 words out
+  pub edit_stopped : {x : Refused} (words : List ℕ) (out : Bytes) → z ≡ Err x → a ≡ answer_of (refusal_at (number x.refusal) x.place) → LeavesEdit text line a w0 w1 w2 words out v0 v1 v2 words out
   unfolding refusal_at
-  edit_stopped {n} {k} words out e q = record {
+  edit_stopped {x} words out e q = record {
     gives = λ es b r i. gives b (subst (OpensAs text v0 v1 v2) e t.is);
     laid = λ es b r i. laid b (subst (OpensAs text v0 v1 v2) e t.is);
     board_size = refl;
@@ -131,11 +130,11 @@ module _ {text : Bytes} {w0 w1 w2 v0 v1 v2 : List ℕ} {z : SheetRead} {a : Answ
     kept2 = t.kept2;
   }
     where
-      gives : (b : Board) → OpensAs text v0 v1 v2 (sheet.Refused n k) → GivesAnswer (edit_verdict text line b (length out)) a out out
-      gives b (not_opened h) = rw (h (λ s ts. edit_on (length out) s b (read_edit line))) (gives_refusal n k out q)
+      gives : (b : Board) → OpensAs text v0 v1 v2 (Err x) → GivesAnswer (edit_verdict text line b (length out)) a out out
+      gives b (not_opened {e = n} {k = k} h) = rw (h (λ s ts. edit_on (length out) s b (read_edit line))) (gives_refusal (number n) k out q)
 
-      laid : (b : Board) → OpensAs text v0 v1 v2 (sheet.Refused n k)
+      laid : (b : Board) → OpensAs text v0 v1 v2 (Err x)
           → words ≡ board_after (edit_verdict text line b (length out)) (board_words (after_line (sheet_in text) b (read_edit line))) words
-      laid b (not_opened h) =
+      laid b (not_opened {e = n} {k = k} h) =
           not_laid (edit_verdict text line b (length out)) (board_words (after_line (sheet_in text) b (read_edit line))) words
-          (λ i. never_none text n k h (sym (ap (λ (v : Verdict). v.number) (h (λ s ts. edit_on (length out) s b (read_edit line)))) ∙ i))
+          (λ i. never_none text (number n) k h (sym (ap (λ (v : Verdict). v.number) (h (λ s ts. edit_on (length out) s b (read_edit line)))) ∙ i))

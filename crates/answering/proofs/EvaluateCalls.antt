@@ -14,7 +14,6 @@ use Rattle.laws.proofs.Tests.{by-if}
 use Rattle.memory.specs.Map as memory
 use Rattle.ocl.specs.Types.{class, Ty}
 use Rattle.ocl.specs.Model.{Model, is_a}
-use Rattle.ocl.specs.Typing.{typed}
 use Rattle.ocl.specs.Operations.{Outcome, value, undefined, stuck, stop}
 use Rattle.ocl.specs.Soundness.{Sound}
 use Rattle.ocl.proofs.Stops.{stop_within}

@@ -19,9 +19,6 @@ use Rattle.board.specs.Calls.{board_after}
 use Rattle.board.proofs.Verdicts.{verdicts_lines}
 use Rattle.tables.specs.declared.Counts.{Counts}
 use Rattle.tables.specs.Layout.{Kept}
-use Rattle.reader.specs.declared.SheetRead.{SheetRead}
-use Rattle.reader.specs.declared.SheetRead.TheVariants as sheet
-use Rattle.report.specs.declared.Reported.{Reported}
 use Rattle.report.specs.Reports.{report_on, SaysReport}
 use Rattle.making.specs.Made.{MakesBoard}
 use Rattle.board_words.specs.Layout.{board_words}
@@ -30,10 +27,13 @@ use Rattle.opening.specs.Answers.{answer_of}
 use Rattle.opening.specs.Parts.{OpensAs, opened, refused, OpensText, GivesFor}
 use Rattle.opening.proofs.Readings.{leaves_on, leaves_stop}
 use Rattle.answering.specs.Making.{LaysFor, LeavesMade}
+use Rattle.std.specs.Prelude.{Option as Optional, Result, Ok, Err}
+use Rattle.memory.specs.Refusals.{number}
+use Rattle.memory.specs.declared.refusals.Refused.{Refused}
 
 -- ---- on an accepted sheet
 
-module _ {st : Counts} {w0 w1 w2 v2 : List ℕ} {out now : Bytes} {words board : List ℕ} {a : Answer} {r : Reported} (d : MakesBoard st w0 w1 w2 v2 out now words board r)
+module _ {st : Counts} {w0 w1 w2 v2 : List ℕ} {out now : Bytes} {words board : List ℕ} {a : Answer} {r : Optional ℕ} (d : MakesBoard st w0 w1 w2 v2 out now words board r)
     (e : (v : Verdict) → SaysReport r v → a ≡ answer_of v) where
   pub make_gives : GivesFor st w0 w1 w2 (λ s ts. report_on s (length out)) a out now × LaysFor st w0 w1 w2 (length out) words board × Kept w2 v2
   make_gives = (record { for = λ s ts g i. record { is = e (report_on s (length out)) (d.is s ts g i); output = d.output s ts g i } }, record { for = d.laid }, d.kept)
@@ -60,8 +60,8 @@ not_laid v laid words n = rw (ne_eqb v.number 0 n)
 abbrev verdict : Bytes → Sheet → List Ty → Verdict
 verdict out s ts = fitting (length out) (all_verdicts (made s))
 
-module _ {text : Bytes} {w0 w1 w2 v0 v1 v2 : List ℕ} {z : SheetRead} {a : Answer} (t : OpensText text z w0 w1 w2 v0 v1 v2) (words : List ℕ) (out : Bytes) where
-  pub make_given : {st : Counts} {x2 board : List ℕ} {after : Bytes} → z ≡ sheet.Sheet st
+module _ {text : Bytes} {w0 w1 w2 v0 v1 v2 : List ℕ} {z : Result Counts Refused} {a : Answer} (t : OpensText text z w0 w1 w2 v0 v1 v2) (words : List ℕ) (out : Bytes) where
+  pub make_given : {st : Counts} {x2 board : List ℕ} {after : Bytes} → z ≡ Ok st
       → GivesFor st v0 v1 v2 (λ s ts. report_on s (length out)) a out after → LaysFor st v0 v1 v2 (length out) words board → Kept v2 x2
       → LeavesMade text a w0 w1 w2 words out v0 v1 x2 board after
   make_given {st} {board = board} e g l k = record {
@@ -69,15 +69,15 @@ module _ {text : Bytes} {w0 w1 w2 v0 v1 v2 : List ℕ} {z : SheetRead} {a : Answ
     laid = by (subst (OpensAs text v0 v1 v2) e t.is);
   }
     where
-      by : OpensAs text v0 v1 v2 (sheet.Sheet st) → board ≡ board_after (on_accepted text (verdict out)) (board_words (made (sheet_in text))) words
+      by : OpensAs text v0 v1 v2 (Ok st) → board ≡ board_after (on_accepted text (verdict out)) (board_words (made (sheet_in text))) words
       by (opened s ts q h i) =
           l.for s ts h i ∙ ap (λ v. board_after v (board_words (made s)) words) (verdicts_report s (length out)
           ∙ sym (on_accepted_lem text (record { sheet = s; is = q; defined = h.defined; typing = record { types = ts; all = h.typed } }) (verdict out)))
           ∙ ap (λ u. board_after (on_accepted text (verdict out)) (board_words (made u)) words) (sym (sheet_is text s q))
 
-  pub make_stopped : {n k : ℕ} → z ≡ sheet.Refused n k → a ≡ answer_of (refusal_at n k) → LeavesMade text a w0 w1 w2 words out v0 v1 v2 words out
+  pub make_stopped : {x : Refused} → z ≡ Err x → a ≡ answer_of (refusal_at (number x.refusal) x.place) → LeavesMade text a w0 w1 w2 words out v0 v1 v2 words out
   unfolding refusal_at
-  make_stopped {n} {k} e q = record { leaves = leaves_stop t (verdict out) out e q; laid = by (subst (OpensAs text v0 v1 v2) e t.is) }
+  make_stopped {x} e q = record { leaves = leaves_stop t (verdict out) out e q; laid = by (subst (OpensAs text v0 v1 v2) e t.is) }
     where
-      by : OpensAs text v0 v1 v2 (sheet.Refused n k) → words ≡ board_after (on_accepted text (verdict out)) (board_words (made (sheet_in text))) words
-      by (refused h) = not_laid (on_accepted text (verdict out)) (board_words (made (sheet_in text))) words (λ i. never_none text n k h (sym (ap (λ (v : Verdict). v.number) (h (verdict out))) ∙ i))
+      by : OpensAs text v0 v1 v2 (Err x) → words ≡ board_after (on_accepted text (verdict out)) (board_words (made (sheet_in text))) words
+      by (refused {e = n} {k = k} h) = not_laid (on_accepted text (verdict out)) (board_words (made (sheet_in text))) words (λ i. never_none text (number n) k h (sym (ap (λ (v : Verdict). v.number) (h (verdict out))) ∙ i))

@@ -9,15 +9,12 @@ use lib.ListN.{get_or, drop}
 use lib.Seq.{drop-drop, get_or-drop}
 use Rattle.ocl.specs.Types.{Ty}
 use Rattle.sheet.specs.Text.{Bytes}
-use Rattle.sheet.specs.Sheet.{Sheet}
 use Rattle.sheet.specs.Calls.{Verdict, answer, refusal_at, type_lines}
 use Rattle.sheet.specs.Profile.{first_outside, on_profile, profile_of}
 use Rattle.nodes.specs.Nodes.{word}
 use Rattle.types.specs.Word.{type_in}
 use Rattle.tables.specs.declared.Counts.{Counts}
 use Rattle.tables.specs.Layout.{Kept}
-use Rattle.reader.specs.declared.SheetRead.{SheetRead}
-use Rattle.reader.specs.declared.SheetRead.TheVariants as sheet
 use Rattle.rules.specs.Accepted.{TypesIn}
 use Rattle.numbering.specs.Sheets.{KeepsTypes, FindsOutside}
 use Rattle.numbering.proofs.Lowest.{line_there, line_none}
@@ -28,6 +25,9 @@ use Rattle.answering.specs.TypeLines.{Waiting, PutsTypes, profiled}
 use Rattle.opening.proofs.Answers.{gives_refusal, gives_written}
 use Rattle.opening.proofs.Readings.{leaves_with, leaves_stop, accepted_number}
 use Rattle.answering.proofs.ReadCalls.{rule_count}
+use Rattle.std.specs.Prelude.{Result, Ok, Err}
+use Rattle.memory.specs.Refusals.{number}
+use Rattle.memory.specs.declared.refusals.Refused.{Refused}
 
 -- ---- the types wait on
 
@@ -65,13 +65,13 @@ module _ {st : Counts} {w0 u1 v1 u2 v2 : List ℕ} {p : ℕ} (f : FindsOutside s
 
 -- ---- after a text is opened
 
-module _ {text : Bytes} {w0 w1 w2 v0 v1 v2 : List ℕ} {z : SheetRead} {a : Answer} (t : OpensText text z w0 w1 w2 v0 v1 v2) where
-  pub profile_given : {st : Counts} {x1 x2 : List ℕ} {out after : Bytes} → z ≡ sheet.Sheet st → GivesFor st v0 v1 v2 profiled a out after × Kept v1 x1 × Kept v2 x2
+module _ {text : Bytes} {w0 w1 w2 v0 v1 v2 : List ℕ} {z : Result Counts Refused} {a : Answer} (t : OpensText text z w0 w1 w2 v0 v1 v2) where
+  pub profile_given : {st : Counts} {x1 x2 : List ℕ} {out after : Bytes} → z ≡ Ok st → GivesFor st v0 v1 v2 profiled a out after × Kept v1 x1 × Kept v2 x2
       → Leaves (profile_of text) a w0 w1 w2 out v0 x1 x2 after
   unfolding profile_of
   profile_given e (g, j, k) = leaves_with t profiled e g j k
 
-  pub profile_stopped : {n k : ℕ} (out : Bytes) → z ≡ sheet.Refused n k → a ≡ answer_of (refusal_at n k) → Leaves (profile_of text) a w0 w1 w2 out v0 v1 v2 out
+  pub profile_stopped : {x : Refused} (out : Bytes) → z ≡ Err x → a ≡ answer_of (refusal_at (number x.refusal) x.place) → Leaves (profile_of text) a w0 w1 w2 out v0 v1 v2 out
   unfolding profile_of
   profile_stopped out e q = leaves_stop t profiled out e q
 

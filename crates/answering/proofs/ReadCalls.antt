@@ -3,11 +3,11 @@ use mathlib.Core.Path.{◌≡◌, refl, sym, ap, ◌∙◌}
 use mathlib.Core.Logic.{◌≢◌}
 use mathlib.Core.Option.{some}
 use mathlib.Core.List.{List, [], ◌∷◌, ◌++◌, append_assoc}
-use Prim.Native.Nat.{ℕ, suc, ◌+◌, ◌≤◌, ◌<◌}
+use Prim.Native.Nat.{ℕ, suc, ◌+◌, ◌-◌, ◌≤◌, ◌<◌}
 use native.Mathlib.Omega.{arith}
 use native.Mathlib.Numerals.{add-one}
-use lib.ListN.{length, get_or, get_elem?, take, drop, length-append, take-append-drop}
-use lib.Seq.{take-length}
+use lib.ListN.{length, get_or, get_elem?, take, drop, length-append, length-take, length-drop, take-append-drop}
+use lib.Seq.{take-length, get_or-take, get_or-drop}
 use Rattle.laws.specs.Lists.{Each}
 use Rattle.laws.proofs.Elements.{elem_some}
 use Rattle.ocl.specs.Types.{Ty, void}
@@ -26,8 +26,6 @@ use Rattle.text.proofs.WrittenLaws.{puts_length, puts_as, puts_nothing, puts_the
 use Rattle.types.specs.Word.{type_in}
 use Rattle.tables.specs.declared.Counts.{Counts}
 use Rattle.tables.proofs.Tables.{kept_refl}
-use Rattle.reader.specs.declared.SheetRead.{SheetRead}
-use Rattle.reader.specs.declared.SheetRead.TheVariants as sheet
 use Rattle.rules.specs.Accepted.{Accepted, TypesIn}
 use Rattle.rules.proofs.RuleByRule.{take_elem}
 use Rattle.opening.specs.declared.Answer.{Answer}
@@ -35,6 +33,8 @@ use Rattle.opening.specs.Parts.{OpensAs, opened, OpensText, Leaves, written_to}
 use Rattle.answering.specs.TypeLines.{Waiting, PutsTypes}
 use Rattle.opening.proofs.Answers.{gives_written}
 use Rattle.opening.proofs.Readings.{leaves_on, accepted_number}
+use Rattle.std.specs.Prelude.{Result, Ok}
+use Rattle.memory.specs.declared.refusals.Refused.{Refused}
 
 -- ---- lines
 
@@ -58,6 +58,14 @@ lines_within r ts =
 
 abbrev pub type_at : List ℕ → ℕ → Ty
 type_at w2 r = type_in (get_or w2 (768 + r) 0)
+
+-- the words that hold the n types
+module _ (w2 : List ℕ) {n : ℕ} (room : 768 + n ≤ length w2) where
+  pub words_long : length (take (768 + n - 768) (drop 768 w2)) ≡ n
+  words_long = simp (length-take, length-drop) (omega arith)
+
+  pub word_type : {t : Ty} (r : ℕ) → r < n → t ≡ type_in (get_or (take (768 + n - 768) (drop 768 w2)) r 0) → t ≡ type_at w2 r
+  word_type r h e = e ∙ ap type_in (get_or-take (768 + n - 768) (drop 768 w2) r 0 (omega arith) ∙ get_or-drop 768 w2 r 0)
 
 pub record LinesTo (w2 : List ℕ) (n : ℕ) (before now : Bytes) (r at : ℕ) : Type 0 where
   pub is : (ts : List Ty) → TypesIn w2 ts → length ts ≡ n → Puts 0 (type_lines (take r ts)) before now at
@@ -137,12 +145,12 @@ types_count (one_typed e h) = ap suc (types_count h)
 pub rule_count : {st : Counts} {w0 w1 : List ℕ} {s : Sheet} {ts : List Ty} {n : ℕ} → Accepted st w0 w1 s ts → n ≡ st.rules → length ts ≡ n
 rule_count h e = omega (arith, types_count h.typed, h.lies.holds.counted.rules)
 
-module _ {text : Bytes} {w0 w1 w2 v0 v1 v2 : List ℕ} {z : SheetRead} {st : Counts} {n : ℕ} (t : OpensText text z w0 w1 w2 v0 v1 v2) (e : z ≡ sheet.Sheet st) (c : n ≡ st.rules) where
+module _ {text : Bytes} {w0 w1 w2 v0 v1 v2 : List ℕ} {z : Result Counts Refused} {st : Counts} {n : ℕ} (t : OpensText text z w0 w1 w2 v0 v1 v2) (e : z ≡ Ok st) (c : n ≡ st.rules) where
   pub types_wait : {out : Bytes} → Lent v0 v1 v2 out → Waiting v2 n
   unfolding answer
   types_wait {out} l = by (rw e at t.is)
     where
-      by : OpensAs text v0 v1 v2 (sheet.Sheet st) → Waiting v2 n
+      by : OpensAs text v0 v1 v2 (Ok st) → Waiting v2 n
       by (opened s ts q h i) =
           let a : AcceptedSheet text = record { sheet = s; is = q; defined = h.defined; typing = record { types = ts; all = h.typed } } in
           let r = read_lent text v0 v1 v2 out l ∙ on_accepted_lem text a (λ s ts. answer (type_lines ts)) in

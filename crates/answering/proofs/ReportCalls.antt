@@ -7,7 +7,7 @@ use Prim.Native.Nat.{ℕ}
 use native.Mathlib.Omega.{arith}
 use lib.Dec.{ltb}
 use lib.ListN.{length}
-use Rattle.std.specs.Prelude.{if◌then◌else◌}
+use Rattle.std.specs.Prelude.{if◌then◌else◌, Option as Optional, Result, Ok, Err}
 use Rattle.sheet.specs.Text.{Bytes}
 use Rattle.sheet.specs.Calls.{Verdict, answer, refusal_at, refusal}
 use Rattle.sheet.specs.Sheet.{Sheet}
@@ -15,18 +15,17 @@ use Rattle.sheet.specs.Report.{rule_lines, fitting, report_of}
 use Rattle.sheet.specs.Origin.{rule_origins, origins_of}
 use Rattle.tables.specs.declared.Counts.{Counts}
 use Rattle.tables.specs.Layout.{Kept}
-use Rattle.reader.specs.declared.SheetRead.{SheetRead}
-use Rattle.reader.specs.declared.SheetRead.TheVariants as sheet
-use Rattle.report.specs.declared.Reported.{Reported}
 use Rattle.report.specs.Reports.{report_on, origins_on, SaysReport, Reports}
 use Rattle.opening.specs.declared.Answer.{Answer}
 use Rattle.opening.specs.Answers.{answer_of}
 use Rattle.opening.specs.Parts.{OpensText, GivesFor, Leaves}
 use Rattle.opening.proofs.Readings.{leaves_on, leaves_stop, accepted_number}
+use Rattle.memory.specs.Refusals.{number}
+use Rattle.memory.specs.declared.refusals.Refused.{Refused}
 
 -- ---- on an accepted sheet
 
-module _ {st : Counts} {w0 w1 w2 v2 : List ℕ} {out now : Bytes} {a : Answer} {r : Reported} where
+module _ {st : Counts} {w0 w1 w2 v2 : List ℕ} {out now : Bytes} {a : Answer} {r : Optional ℕ} where
   lines_give : (f : Sheet → ℕ → Verdict) → Reports f st w0 w1 w2 v2 out now r → ((v : Verdict) → SaysReport r v → a ≡ answer_of v)
       → GivesFor st w0 w1 w2 (λ s ts. f s (length out)) a out now
   lines_give f d e = record { for = λ s ts g i. record { is = e (f s (length out)) (d.is s ts g i); output = d.output s ts g i } }
@@ -41,22 +40,22 @@ module _ {st : Counts} {w0 w1 w2 v2 : List ℕ} {out now : Bytes} {a : Answer} {
 
 -- ---- after a text is opened
 
-module _ {text : Bytes} {w0 w1 w2 v0 v1 v2 : List ℕ} {z : SheetRead} {a : Answer} (t : OpensText text z w0 w1 w2 v0 v1 v2) where
-  pub report_given : {st : Counts} {x2 : List ℕ} {out after : Bytes} → z ≡ sheet.Sheet st → GivesFor st v0 v1 v2 (λ s ts. report_on s (length out)) a out after → Kept v2 x2
+module _ {text : Bytes} {w0 w1 w2 v0 v1 v2 : List ℕ} {z : Result Counts Refused} {a : Answer} (t : OpensText text z w0 w1 w2 v0 v1 v2) where
+  pub report_given : {st : Counts} {x2 : List ℕ} {out after : Bytes} → z ≡ Ok st → GivesFor st v0 v1 v2 (λ s ts. report_on s (length out)) a out after → Kept v2 x2
       → Leaves (report_of text (length out)) a w0 w1 w2 out v0 v1 x2 after
   unfolding report_of
   report_given {out = out} e g k = leaves_on t (λ s ts. report_on s (length out)) e g k
 
-  pub report_stopped : {n k : ℕ} (out : Bytes) → z ≡ sheet.Refused n k → a ≡ answer_of (refusal_at n k) → Leaves (report_of text (length out)) a w0 w1 w2 out v0 v1 v2 out
+  pub report_stopped : {x : Refused} (out : Bytes) → z ≡ Err x → a ≡ answer_of (refusal_at (number x.refusal) x.place) → Leaves (report_of text (length out)) a w0 w1 w2 out v0 v1 v2 out
   unfolding report_of
   report_stopped out e q = leaves_stop t (λ s ts. report_on s (length out)) out e q
 
-  pub origins_given : {st : Counts} {x2 : List ℕ} {out after : Bytes} → z ≡ sheet.Sheet st → GivesFor st v0 v1 v2 (λ s ts. origins_on s (length out)) a out after → Kept v2 x2
+  pub origins_given : {st : Counts} {x2 : List ℕ} {out after : Bytes} → z ≡ Ok st → GivesFor st v0 v1 v2 (λ s ts. origins_on s (length out)) a out after → Kept v2 x2
       → Leaves (origins_of text (length out)) a w0 w1 w2 out v0 v1 x2 after
   unfolding origins_of
   origins_given {out = out} e g k = leaves_on t (λ s ts. origins_on s (length out)) e g k
 
-  pub origins_stopped : {n k : ℕ} (out : Bytes) → z ≡ sheet.Refused n k → a ≡ answer_of (refusal_at n k) → Leaves (origins_of text (length out)) a w0 w1 w2 out v0 v1 v2 out
+  pub origins_stopped : {x : Refused} (out : Bytes) → z ≡ Err x → a ≡ answer_of (refusal_at (number x.refusal) x.place) → Leaves (origins_of text (length out)) a w0 w1 w2 out v0 v1 v2 out
   unfolding origins_of
   origins_stopped out e q = leaves_stop t (λ s ts. origins_on s (length out)) out e q
 

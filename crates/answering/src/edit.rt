@@ -8,18 +8,18 @@ ghost use Rattle.opening.specs.Answers.{answer_of};
 ghost use Rattle.editing.specs.Edited.{SaysEdit};
 ghost use Rattle.answering.specs.Editing.{EditsOn, LeavesEdit};
 
-use editing::{Edited, edit_board};
-use opening::{Answer, no_output, open_text, written};
-use reader::SheetRead;
+use editing::edit_board;
+use memory::refusals::Refused;
+use opening::{Answer, open_text, written};
 use tables::Counts;
 
 // How an edit ended, as an answer.
-fn edit_ended(e: Edited) -> Answer
+fn edit_ended(e: Result<(usize, u64), Refused>) -> Answer
     ensures { (v : Verdict) → SaysEdit e v → result ≡ answer_of v }
 {
     match e {
-        Edited::Written(end, steps) => written(end, steps),
-        Edited::Refused(n, k) => no_output(n, k),
+        Ok((end, steps)) => written(end, steps),
+        Err(refused) => Answer::from(refused),
     }
 }
 
@@ -53,7 +53,7 @@ pub fn edit_answer(
     ensures { LeavesEdit text.now edit.now result w0.old w1.old w2.old words.old out.old w0.new w1.new w2.new words.new out.new }
 {
     match open_text(text, w0, w1, w2) {
-        SheetRead::Sheet(st) => edit_on(edit, w0, st, w1, w2, words, out),
-        SheetRead::Refused(n, k) => no_output(n, k),
+        Ok(st) => edit_on(edit, w0, st, w1, w2, words, out),
+        Err(refused) => Answer::from(refused),
     }
 }

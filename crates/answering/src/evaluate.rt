@@ -10,11 +10,11 @@ ghost use Rattle.rules.specs.Accepted.{KnownTyped};
 ghost use Rattle.opening.specs.Parts.{Leaves, GivesFor};
 ghost use Rattle.answering.specs.Outcomes.{Fitting, GivesEnded};
 
+use memory::refusals::Refusal;
 use memory::words::wide;
 use opening::{Answer, no_output, open_text, written};
 use outcomes::Ended;
 use outcomes::lookup::is_a;
-use reader::SheetRead;
 use rules::evaluated::evaluate_numbered;
 use spelling::put_value;
 use tables::Counts;
@@ -31,8 +31,8 @@ fn put_outcome(e: Ended, w2: &[u64], out: &mut [u8]) -> Answer
         Ended::Stuck => no_output(100, 0),
         Ended::Stop { number, steps } => {
             Answer {
-                number: number,
-                steps: steps,
+                number,
+                steps,
                 place: 0,
                 length: 0,
             }
@@ -71,18 +71,15 @@ fn evaluate_on(
     requires { Lent w0.now w1.now w2.old out.old × KnownTyped st w0.now w1.now w2.old }
     ensures { GivesFor st w0.now w1.now w2.old (λ s ts. evaluate_on s r o) result out.old out.new × Kept w2.old w2.new }
 {
-    if st.rules <= r {
-        return no_output(14, 0);
-    }
-    if st.objects <= o {
-        return no_output(14, 0);
+    if st.rules <= r || st.objects <= o {
+        return Answer::from(Refusal::NotListed.at(0));
     }
     let i = wide(r);
     let context = w0[memory::CONTEXTS + i];
     if is_a(w0, st, o, context) {
         return evaluate_typed(w0, st, w1, w2, i, o, out);
     }
-    no_output(15, 0)
+    Answer::from(Refusal::OtherClass.at(0))
 }
 
 // The answer for the text, whatever the words held before; they are not wiped yet.
@@ -99,7 +96,7 @@ pub fn evaluate_answer(
     ensures { Leaves (on_accepted text.now (λ s ts. evaluate_on s r o)) result w0.old w1.old w2.old out.old w0.new w1.new w2.new out.new }
 {
     match open_text(text, w0, w1, w2) {
-        SheetRead::Sheet(st) => evaluate_on(w0, st, w1, w2, r, o, out),
-        SheetRead::Refused(n, k) => no_output(n, k),
+        Ok(st) => evaluate_on(w0, st, w1, w2, r, o, out),
+        Err(refused) => Answer::from(refused),
     }
 }

@@ -7,10 +7,10 @@ ghost use Rattle.opening.specs.Parts.{Leaves, GivesFor};
 ghost use Rattle.answering.specs.TypeLines.{Waiting, profiled};
 
 use super::read::put_types;
+use memory::refusals::Refusal;
 use memory::words::wide;
 use numbering::whole::lowest_outside;
-use opening::{Answer, no_output, open_text, written};
-use reader::SheetRead;
+use opening::{Answer, open_text, written};
 use rules::typed::line_of;
 use tables::Counts;
 
@@ -21,7 +21,7 @@ fn profile_on(w0: &[u64], st: Counts, w1: &mut [u64], w2: &mut [u64], out: &mut 
 {
     let p = lowest_outside(w0, st, w1, w2);
     if p < memory::NODES {
-        return no_output(22, line_of(w1, p as u64));
+        return Answer::from(Refusal::OutsideProfile.at(line_of(w1, p as u64)));
     }
     written(put_types(w2, wide(st.rules), out), 0)
 }
@@ -38,7 +38,7 @@ pub fn profile_answer(
     ensures { Leaves (profile_of text.now) result w0.old w1.old w2.old out.old w0.new w1.new w2.new out.new }
 {
     match open_text(text, w0, w1, w2) {
-        SheetRead::Sheet(st) => profile_on(w0, st, w1, w2, out),
-        SheetRead::Refused(n, k) => no_output(n, k),
+        Ok(st) => profile_on(w0, st, w1, w2, out),
+        Err(refused) => Answer::from(refused),
     }
 }

@@ -9,8 +9,7 @@ ghost use Rattle.opening.specs.Parts.{GivesFor};
 ghost use Rattle.answering.specs.Making.{LaysFor, LeavesMade};
 
 use making::make_board;
-use opening::{Answer, lines_answer, no_output, open_text};
-use reader::SheetRead;
+use opening::{Answer, lines_answer, open_text};
 use tables::Counts;
 
 // The board of the accepted sheet in the words, put into the two slices, or 18.
@@ -41,7 +40,7 @@ pub fn make_answer(
     ensures { LeavesMade text.now result w0.old w1.old w2.old words.old out.old w0.new w1.new w2.new words.new out.new }
 {
     match open_text(text, w0, w1, w2) {
-        SheetRead::Sheet(st) => make_on(w0, st, w1, w2, words, out),
-        SheetRead::Refused(n, k) => no_output(n, k),
+        Ok(st) => make_on(w0, st, w1, w2, words, out),
+        Err(refused) => Answer::from(refused),
     }
 }

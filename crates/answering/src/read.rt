@@ -7,8 +7,7 @@ ghost use Rattle.opening.specs.Parts.{Leaves};
 ghost use Rattle.answering.specs.TypeLines.{Waiting, PutsTypes};
 
 use memory::words::wide;
-use opening::{Answer, no_output, open_text, written};
-use reader::SheetRead;
+use opening::{Answer, open_text, written};
 use text::spelling::put_byte;
 use types::spelling::put_type;
 use types::word::unpack;
@@ -19,11 +18,9 @@ pub fn put_types(w2: &[u64], rules: usize, out: &mut [u8]) -> usize
     ensures { PutsTypes w2.now rules out.old out.new result }
 {
     let mut at: usize = 0;
-    let mut r: usize = 0;
-    while r < rules {
-        let end = put_type(out, at, unpack(w2[memory::RULE_TYPES + r]));
+    for ty in &w2[memory::RULE_TYPES..memory::RULE_TYPES + rules] {
+        let end = put_type(out, at, unpack(*ty));
         at = put_byte(out, end, b'\n');
-        r += 1;
     }
     at
 }
@@ -40,7 +37,7 @@ pub fn read_answer(
     ensures { Leaves (on_accepted text.now (λ s ts. answerWith (type_lines ts))) result w0.old w1.old w2.old out.old w0.new w1.new w2.new out.new }
 {
     match open_text(text, w0, w1, w2) {
-        SheetRead::Sheet(st) => written(put_types(w2, wide(st.rules), out), 0),
-        SheetRead::Refused(n, k) => no_output(n, k),
+        Ok(st) => written(put_types(w2, wide(st.rules), out), 0),
+        Err(refused) => Answer::from(refused),
     }
 }

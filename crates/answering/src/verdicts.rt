@@ -7,8 +7,7 @@ ghost use Rattle.rules.specs.Accepted.{KnownTyped};
 ghost use Rattle.report.specs.Reports.{report_on};
 ghost use Rattle.opening.specs.Parts.{Leaves, GivesFor};
 
-use opening::{Answer, lines_answer, no_output, open_text};
-use reader::SheetRead;
+use opening::{Answer, lines_answer, open_text};
 use report::report_sheet;
 use tables::Counts;
 
@@ -32,7 +31,7 @@ pub fn report_answer(
     ensures { Leaves (report_of text.now (length out.old)) result w0.old w1.old w2.old out.old w0.new w1.new w2.new out.new }
 {
     match open_text(text, w0, w1, w2) {
-        SheetRead::Sheet(st) => report_on(w0, st, w1, w2, out),
-        SheetRead::Refused(n, k) => no_output(n, k),
+        Ok(st) => report_on(w0, st, w1, w2, out),
+        Err(refused) => Answer::from(refused),
     }
 }

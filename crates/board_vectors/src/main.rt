@@ -8,7 +8,7 @@ ghost use Rattle.std.specs.Prelude.{◌<◌, length};
 
 use checker::edit_board_call::ocl_edit_board;
 use checker::make_board_call::ocl_make_board;
-use input::{Filled, read_input};
+use input::read_input;
 use opening::Answer;
 use std::fs::File;
 use std::io::Read;
@@ -96,9 +96,7 @@ fn print_board(rt: &(impl Print + Eprint), pieces: &[u8]) {
 
 fn print_input<R: Read>(rt: &(impl Print + Eprint), input: &mut R, name: &str) -> io::Result<()> {
     let mut pieces: [u8; 65536] = [0; 65536];
-    let Filled::With(n) = read_input(input, &mut pieces) else {
-        return Err(io::Error::other("it could not be read"));
-    };
+    let n = read_input(input, &mut pieces)?;
     println!(rt; "{name}")?;
     print_board(rt, &pieces[..n]);
     Ok(())

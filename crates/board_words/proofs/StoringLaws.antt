@@ -9,7 +9,6 @@ use borrow.Author.Tests.{lt-ltb, le-ltb}
 use lib.ListN.{length, get_or, take, drop, set, replicate, length-set, length-append, length-replicate, length-drop, take-append-drop, get_or-append}
 use lib.Seq.{length-take-le, take_all, take-take, drop-set-lt, get_or-take, get_or-append-add, drop-drop, paste, paste-suc, take-paste, drop-paste, length_paste_head}
 use Rattle.memory.specs.Map as memory
-use Rattle.ocl.specs.Values.{size}
 use Rattle.board.specs.Board.{Board}
 use Rattle.tables.specs.declared.Counts.{Counts}
 use Rattle.tables.specs.Layout.{tab, Fine}

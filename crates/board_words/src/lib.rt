@@ -28,10 +28,8 @@ fn put_table(words: &mut [u64], at: usize, room: usize, table: &[u64], n: usize)
     requires { (at + room ≤ length words.old) × (n ≤ length table.now) }
     ensures { words.new ≡ paste words.old at (padded room (take n table.now)) room }
 {
-    let mut i: usize = 0;
-    while i < room {
+    for i in 0..room {
         words[at + i] = word_or(table, n, i);
-        i += 1;
     }
 }
 

@@ -8,6 +8,9 @@ use borrow.Author.Tests.{ltb-false}
 use lib.ListN.{length}
 use lib.Dec.{ltb}
 use Rattle.laws.proofs.Tests.{or_outer, or_middle, or-none}
+use Rattle.memory.specs.Refusals.{number, at}
+use Rattle.memory.specs.declared.refusals.Refusal.TheVariants.{ShortBench}
+use Rattle.memory.specs.declared.refusals.Refused.{Refused}
 use Rattle.sheet.specs.Text.{Bytes}
 use Rattle.sheet.specs.Calls.{refusal_at, refusal, short_words, short_output}
 use Rattle.sheet.specs.Report.{fitting}
@@ -30,9 +33,9 @@ use Rattle.answering.specs.Editing.{LeavesEdit}
 -- ---- lengths
 
 module _ (w0 w1 w2 words : List ℕ) (out : Bytes) where
-  pub short_some : {b : Bool} → b ≡ (short_words w0 w1 w2 || short_output out) → b ≡ true → true ≡ short_board w0 w1 w2 words out
+  pub short_some : {b : Bool} → b ≡ (short_words w0 w1 w2 || short_output out) → b ≡ true → b ≡ short_board w0 w1 w2 words out
   unfolding short_board
-  short_some e h = or_outer (short_words w0 w1 w2) (ltb (length words) 8192) (short_output out) (sym e ∙ h)
+  short_some e h = h ∙ or_outer (short_words w0 w1 w2) (ltb (length words) 8192) (short_output out) (sym e ∙ h)
 
   pub short_words_lem : {b : Bool} → b ≡ (short_words w0 w1 w2 || short_output out) → b ≡ false → ltb (length words) 8192 ≡ short_board w0 w1 w2 words out
   unfolding short_board
@@ -47,9 +50,9 @@ board_lent w0 w1 w2 words out e h =
 -- ---- the call that makes a board
 
 module _ {text : Bytes} {w0 w1 w2 words : List ℕ} {out : Bytes} {a : Answer} {b : Bool} (is : b ≡ short_board w0 w1 w2 words out) where
-  pub make_short : b ≡ true → a ≡ answer_of (refusal_at 1 0) → AnswersMade layout text a w0 w1 w2 words out w0 w1 w2 words out
+  pub make_short : {x : Refused} → b ≡ true → x ≡ at ShortBench 0 → a ≡ answer_of (refusal_at (number x.refusal) x.place) → AnswersMade layout text a w0 w1 w2 words out w0 w1 w2 words out
   unfolding make_call refusal refusal_at board_after
-  make_short q e = record { call = rw (sym is ∙ q) (untouched w0 w1 w2 out e); laid = rw (sym is ∙ q) }
+  make_short q s e = record { call = rw (sym is ∙ q) (untouched w0 w1 w2 out (rw s at e)); laid = rw (sym is ∙ q) }
 
   pub make_long : {v0 v1 v2 x0 x1 x2 board : List ℕ} {after : Bytes} → b ≡ false → LeavesMade text a w0 w1 w2 words out v0 v1 v2 board after → Wipes v0 v1 v2 x0 x1 x2
       → AnswersMade layout text a w0 w1 w2 words out x0 x1 x2 board after
@@ -67,10 +70,10 @@ pub edit_wide : {text line : Bytes} {a : Answer} {w0 w1 w2 words v0 v1 v2 board 
 edit_wide l k = (omega (arith, l.words0, k.kept0.size), omega (arith, l.words1, k.kept1.size), omega (arith, l.words2, k.kept2.size))
 
 module _ {text line : Bytes} {w0 w1 w2 words : List ℕ} {out : Bytes} {a : Answer} {b : Bool} (is : b ≡ short_board w0 w1 w2 words out) where
-  pub edit_short : b ≡ true → a ≡ answer_of (refusal_at 1 0) → AnswersEdit layout text line a w0 w1 w2 words out w0 w1 w2 words out
+  pub edit_short : {x : Refused} → b ≡ true → x ≡ at ShortBench 0 → a ≡ answer_of (refusal_at (number x.refusal) x.place) → AnswersEdit layout text line a w0 w1 w2 words out w0 w1 w2 words out
   unfolding edit_call refusal refusal_at board_after
-  edit_short q e = record {
-    for = λ es c k i. record { call = rw (sym is ∙ q) (untouched w0 w1 w2 out e); laid = rw (sym is ∙ q) };
+  edit_short q s e = record {
+    for = λ es c k i. record { call = rw (sym is ∙ q) (untouched w0 w1 w2 out (rw s at e)); laid = rw (sym is ∙ q) };
     words0 = rw (sym is ∙ q);
     words1 = rw (sym is ∙ q);
     words2 = rw (sym is ∙ q);

@@ -4,7 +4,8 @@ ghost use Rattle.checker.specs.Boards.{AnswersEdit};
 
 use super::make_board_call::short_board;
 use answering::edit::edit_answer;
-use opening::{Answer, no_output, wipe_all};
+use memory::refusals::Refusal;
+use opening::{Answer, wipe_all};
 
 // Edits the running board of a sheet: 0 with all verdicts in out, the board after the edit in words and the steps of the rules that were
 // evaluated again, else a refusal, which leaves both as they are. A slice of words below 8,192, or an out below 2,560 bytes, is refused
@@ -21,7 +22,7 @@ pub fn ocl_edit_board(
     ensures { AnswersEdit layout text.now edit.now result w0.old w1.old w2.old words.old out.old w0.new w1.new w2.new words.new out.new }
 {
     if short_board(w0, w1, w2, words, out) {
-        return no_output(1, 0);
+        return Answer::from(Refusal::ShortBench.at(0));
     }
     let a = edit_answer(text, edit, w0, w1, w2, words, out);
     wipe_all(w0, w1, w2);

@@ -3,7 +3,8 @@ ghost use Rattle.sheet.specs.Report.{report_call};
 ghost use Rattle.opening.specs.Answers.{AnswersWith};
 
 use answering::verdicts::report_answer;
-use opening::{Answer, no_output, short_lent, wipe_all};
+use memory::refusals::Refusal;
+use opening::{Answer, short_lent, wipe_all};
 
 // Writes the report of a sheet: 0 with its lines in out, else a refusal, which leaves out as it is. A slice of words below 8,192, or an out
 // below 2,560 bytes, is refused with 1.
@@ -17,7 +18,7 @@ pub fn ocl_report(
     ensures { AnswersWith (report_call text.now w0.old w1.old w2.old out.old) result w0.old w1.old w2.old out.old w0.new w1.new w2.new out.new }
 {
     if short_lent(w0, w1, w2, out) {
-        return no_output(1, 0);
+        return Answer::from(Refusal::ShortBench.at(0));
     }
     let a = report_answer(text, w0, w1, w2, out);
     wipe_all(w0, w1, w2);

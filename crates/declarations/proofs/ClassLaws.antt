@@ -19,11 +19,9 @@ use Rattle.sheet.proofs.Parents.{parent_more}
 use Rattle.types.specs.Flat.{parent_of}
 use Rattle.text.specs.Numbers.{cut_num}
 use Rattle.text.specs.declared.parts.Fields.{Fields}
-use Rattle.text.specs.declared.numbers.Num.TheVariants as num
 use Rattle.text.proofs.NumberLaws.{num_bad}
 use Rattle.text.proofs.PartLaws.{counted_exact}
 use Rattle.tables.specs.declared.Counts.{Counts}
-use Rattle.tables.specs.declared.Step.TheVariants.{Next, Refused}
 use Rattle.tables.specs.Layout.{parent_code, Holds, Fine}
 use Rattle.tables.proofs.Tables.{kept_set}
 use Rattle.tables.proofs.Entries.{definitions_same, tab_more_of, holds_kept, spare_parent, open_kept}
@@ -33,6 +31,8 @@ use Rattle.declarations.specs.Fields.{parent_num}
 use Rattle.declarations.specs.Taken.{Lettered, TookSpelled}
 use Rattle.declarations.proofs.TakenLaws.{stopped, passed, past_block, order_by_number, misnumbered, unknown}
 use Rattle.declarations.proofs.ParentLaws.{the_parent, parent_some, parent_exact, parent_bad, code_of, code_within, code_smaller, code_not_smaller}
+use Rattle.std.specs.Prelude.{Some, None, Ok, Err}
+use Rattle.memory.specs.declared.refusals.Refusal.TheVariants.{OverMeasure, OutOfRow, UnknownPart}
 
 -- ---- the fields
 
@@ -55,17 +55,17 @@ module _ {line : Bytes} {f : Fields} (so : Lettered "C" line f) where
     long : length (fields_of line) ≡ 3
     long = counted_exact so.cut (omega arith) ∙ three
 
-    pub class_number : {x : Bytes} → x ≡ get_or (fields_of line) 1 [] → num.Bad ≡ cut_num (a_number x) → line_of (fields_of line) ≡ none
+    pub class_number : {x : Bytes} → x ≡ get_or (fields_of line) 1 [] → None ≡ cut_num (a_number x) → line_of (fields_of line) ≡ none
     class_number {x} e h = reads ∙ field_bad a_number _ (fields_of line) 1 (omega (arith, long)) (rw (← e) (num_bad (a_number x) h))
 
-    module _ {x y : Bytes} (at1 : x ≡ get_or (fields_of line) 1 []) (at2 : y ≡ get_or (fields_of line) 2 []) {n : ℕ} (number : num.Is n ≡ cut_num (a_number x)) where
+    module _ {x y : Bytes} (at1 : x ≡ get_or (fields_of line) 1 []) (at2 : y ≡ get_or (fields_of line) 2 []) {n : ℕ} (number : Some n ≡ cut_num (a_number x)) where
       first : line_of (fields_of line) ≡ next a_parent (λ p. done (class_line (the (a_number x)) p)) (drop 2 (fields_of line))
       first = reads ∙ field_some a_number _ (fields_of line) 1 (omega (arith, long)) (rw (← at1) (num_some (a_number x) number))
 
-      pub class_parent : num.Bad ≡ parent_num (a_parent y) → line_of (fields_of line) ≡ none
+      pub class_parent : None ≡ parent_num (a_parent y) → line_of (fields_of line) ≡ none
       class_parent h = first ∙ field_bad a_parent _ (fields_of line) 2 (omega (arith, long)) (rw (← at2) (parent_bad (a_parent y) h))
 
-      module _ {q : ℕ} (parent : num.Is q ≡ parent_num (a_parent y)) where
+      module _ {q : ℕ} (parent : Some q ≡ parent_num (a_parent y)) where
         pub class_spelled : line_of (fields_of line) ≡ some (class_line (the (a_number x)) (the_parent (a_parent y)))
         class_spelled =
             first
@@ -79,13 +79,13 @@ module _ {line : Bytes} {f : Fields} (so : Lettered "C" line f) where
 
 -- numbers over their limits
 module _ (st : Counts) (k : ℕ) (w0 w1 : List ℕ) (n : ℕ) (p : Option ℕ) {m : ℕ} (cut : m ≡ min n 1000000) where
-  pub class_over : 64 ≤ m → TookSpelled st k (class_line n p) (Refused 4) w0 w1 w0 w1
+  pub class_over : 64 ≤ m → TookSpelled st k (class_line n p) (Err OverMeasure) w0 w1 w0 w1
   unfolding within_limits is_class
-  class_over h = stopped st k w0 w1 _ 4 (λ s _. over_limits s k _ (rw (le-ltb n 64 (omega arith))))
+  class_over h = stopped st k w0 w1 _ OverMeasure (λ s _. over_limits s k _ (rw (le-ltb n 64 (omega arith))))
 
-  pub class_over_parent : m < 64 → parent_within p ≡ false → TookSpelled st k (class_line n p) (Refused 4) w0 w1 w0 w1
+  pub class_over_parent : m < 64 → parent_within p ≡ false → TookSpelled st k (class_line n p) (Err OverMeasure) w0 w1 w0 w1
   unfolding within_limits is_class
-  class_over_parent l h = stopped st k w0 w1 _ 4 (λ s _. over_limits s k _ (rw (lt-ltb n 64 (omega arith), h)))
+  class_over_parent l h = stopped st k w0 w1 _ OverMeasure (λ s _. over_limits s k _ (rw (lt-ltb n 64 (omega arith), h)))
 
 -- ---- the entry
 
@@ -148,12 +148,12 @@ module _ (st : Counts) (k : ℕ) (w0 w1 : List ℕ) (n q : ℕ) (low : n < 64) (
   unfolding within_limits is_class
   within s = rw (lt-ltb n 64 low, code_within q high)
 
-  pub class_block : 0 < st.block → TookSpelled st k (class_line n (parent_of q)) (Refused 5) w0 w1 w0 w1
+  pub class_block : 0 < st.block → TookSpelled st k (class_line n (parent_of q)) (Err OutOfRow) w0 w1 w0 w1
   unfolding block_of
   class_block = past_block st k w0 w1 (class_line n (parent_of q)) within
 
   module _ (in_block : st.block ≤ 0) where
-    pub class_gap : (n ≡ st.classes → ⊥) → TookSpelled st k (class_line n (parent_of q)) (Refused 5) w0 w1 w0 w1
+    pub class_gap : (n ≡ st.classes → ⊥) → TookSpelled st k (class_line n (parent_of q)) (Err OutOfRow) w0 w1 w0 w1
     unfolding block_of numbered
     class_gap o =
         misnumbered st k w0 w1 (class_line n (parent_of q)) within in_block (λ s h. ne_eqb n (length s.parents) (λ e. o (e ∙ sym h.counted.classes)))
@@ -167,11 +167,11 @@ module _ (st : Counts) (k : ℕ) (w0 w1 : List ℕ) (n q : ℕ) (low : n < 64) (
       unfolding block_of
       in_order_lem s h = order_by_number st k w0 w1 (class_line n (parent_of q)) within in_block s h.counted ∙ its_number s h
 
-      pub class_unknown : n < q → TookSpelled st k (class_line n (parent_of q)) (Refused 6) w0 w1 w0 w1
+      pub class_unknown : n < q → TookSpelled st k (class_line n (parent_of q)) (Err UnknownPart) w0 w1 w0 w1
       unfolding block_of parts_known
       class_unknown u = unknown st k w0 w1 (class_line n (parent_of q)) within in_block its_number (λ s h. code_not_smaller n q u)
 
-      pub class_put : Fine st → 8192 ≤ length w0 → q ≤ n → TookSpelled st k (class_line n (parent_of q)) (Next (class_counts st n)) w0 w1 (set w0 n q) w1
+      pub class_put : Fine st → 8192 ≤ length w0 → q ≤ n → TookSpelled st k (class_line n (parent_of q)) (Ok (class_counts st n)) w0 w1 (set w0 n q) w1
       unfolding parts_known calls_smaller calls_known suits tree_holds
       class_put fine room smaller =
           passed st k w0 w1 _ (class_counts st n) _ (kept_set w0 n q (omega arith)) (search rules) (λ s h. (

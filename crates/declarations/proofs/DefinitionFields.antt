@@ -12,11 +12,11 @@ use Rattle.sheet.specs.Spelling.{read_type}
 use Rattle.sheet.specs.Lines.{definition_line, is, next, done, a_number, line_of}
 use Rattle.text.specs.Numbers.{cut_num}
 use Rattle.text.specs.declared.parts.Fields.{Fields}
-use Rattle.text.specs.declared.numbers.Num.TheVariants as num
 use Rattle.text.proofs.NumberLaws.{num_bad}
 use Rattle.text.proofs.PartLaws.{counted_exact}
 use Rattle.tables.proofs.LineFields.{word_is, takes_none, takes_more, field_bad, field_some, fields_done, the, num_some}
 use Rattle.declarations.specs.Taken.{Lettered}
+use Rattle.std.specs.Prelude.{Some, None}
 
 definition_fields : (fs : List Bytes) → is (get_or fs 0 []) (bytes "D") ≡ true
     → line_of fs ≡ next a_number (λ n. next a_number (λ c. next read_type (λ t. done (definition_line n c t)))) (drop 1 fs)
@@ -39,17 +39,17 @@ module _ {line : Bytes} {f : Fields} (so : Lettered "D" line f) where
     long = counted_exact so.cut (omega arith) ∙ four
 
     module _ {x : Bytes} (at1 : x ≡ get_or (fields_of line) 1 []) where
-      pub definition_number : num.Bad ≡ cut_num (a_number x) → line_of (fields_of line) ≡ none
+      pub definition_number : None ≡ cut_num (a_number x) → line_of (fields_of line) ≡ none
       definition_number h = reads ∙ field_bad a_number _ (fields_of line) 1 (omega (arith, long)) (rw (← at1) (num_bad (a_number x) h))
 
-      module _ {y : Bytes} (at2 : y ≡ get_or (fields_of line) 2 []) {n : ℕ} (number : num.Is n ≡ cut_num (a_number x)) where
+      module _ {y : Bytes} (at2 : y ≡ get_or (fields_of line) 2 []) {n : ℕ} (number : Some n ≡ cut_num (a_number x)) where
         first : line_of (fields_of line) ≡ next a_number (λ c. next read_type (λ t. done (definition_line (the (a_number x)) c t))) (drop 2 (fields_of line))
         first = reads ∙ field_some a_number _ (fields_of line) 1 (omega (arith, long)) (rw (← at1) (num_some (a_number x) number))
 
-        pub definition_class : num.Bad ≡ cut_num (a_number y) → line_of (fields_of line) ≡ none
+        pub definition_class : None ≡ cut_num (a_number y) → line_of (fields_of line) ≡ none
         definition_class h = first ∙ field_bad a_number _ (fields_of line) 2 (omega (arith, long)) (rw (← at2) (num_bad (a_number y) h))
 
-        module _ {z : Bytes} (at3 : z ≡ get_or (fields_of line) 3 []) {c : ℕ} (class : num.Is c ≡ cut_num (a_number y)) where
+        module _ {z : Bytes} (at3 : z ≡ get_or (fields_of line) 3 []) {c : ℕ} (class : Some c ≡ cut_num (a_number y)) where
           second : line_of (fields_of line) ≡ next read_type (λ t. done (definition_line (the (a_number x)) (the (a_number y)) t)) (drop 3 (fields_of line))
           second = first ∙ field_some a_number _ (fields_of line) 2 (omega (arith, long)) (rw (← at2) (num_some (a_number y) class))
 

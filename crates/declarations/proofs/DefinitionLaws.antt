@@ -16,13 +16,14 @@ use Rattle.sheet.specs.Limits.{is_class, is_definition, class_below, type_within
 use Rattle.sheet.specs.Refusals.{block_of, numbered, parts_known, calls_smaller, calls_known, suits, tree_holds}
 use Rattle.types.specs.Word.{type_in}
 use Rattle.tables.specs.declared.Counts.{Counts}
-use Rattle.tables.specs.declared.Step.TheVariants.{Next, Refused}
 use Rattle.tables.specs.Layout.{open_code, HoldsCurrent, opened, Holds, Fine}
 use Rattle.tables.proofs.Tables.{kept_refl}
 use Rattle.tables.proofs.Entries.{tables_same, definitions_same}
 use Rattle.tables.proofs.Steps.{over_limits, steps_on}
 use Rattle.declarations.specs.Taken.{TookSpelled, TookDefinition}
 use Rattle.declarations.proofs.TakenLaws.{stopped, passed, past_block, order_by_number, misnumbered, unknown}
+use Rattle.std.specs.Prelude.{Ok, Err}
+use Rattle.memory.specs.declared.refusals.Refusal.TheVariants.{OverMeasure, OutOfRow, UnknownPart}
 
 -- the counts with a definition of class c open, p being its type's word
 abbrev pub definition_counts : Counts → ℕ → ℕ → Counts
@@ -81,18 +82,18 @@ definition_held st k n c p t w0 w1 s packed h = record {
 
 -- ---- the limits
 
-pub definition_over_type : (st : Counts) (k : ℕ) (w0 w1 : List ℕ) (n c : ℕ) (t : Ty) → type_within t ≡ false → TookSpelled st k (definition_line n c t) (Refused 4) w0 w1 w0 w1
+pub definition_over_type : (n c : ℕ) (t : Ty) → type_within t ≡ false → (s : Sheet) → within_limits s (definition_line n c t) ≡ false
 unfolding within_limits
-definition_over_type st k w0 w1 n c t h = stopped st k w0 w1 _ 4 (λ s _. over_limits s k _ (rw (h, and-false)))
+definition_over_type n c t h s = rw (h, and-false)
 
 module _ {st : Counts} {n c : ℕ} {t : Ty} where
-  pub definition_big : 32 ≤ n → TookDefinition st n c t (Refused 4)
+  pub definition_big : 32 ≤ n → TookDefinition st n c t (Err OverMeasure)
   unfolding within_limits is_definition
-  definition_big h = record { is = λ w0 w1 k i j p q. stopped st k w0 w1 _ 4 (λ s _. over_limits s k _ (rw (le-ltb i 32 (omega arith)))) }
+  definition_big h = record { is = λ w0 w1 k i j p q. stopped st k w0 w1 _ OverMeasure (λ s _. over_limits s k _ (rw (le-ltb i 32 (omega arith)))) }
 
-  pub definition_class_big : 64 ≤ c → TookDefinition st n c t (Refused 4)
+  pub definition_class_big : 64 ≤ c → TookDefinition st n c t (Err OverMeasure)
   unfolding within_limits is_class
-  definition_class_big h = record { is = λ w0 w1 k i j p q. stopped st k w0 w1 _ 4 (λ s _. over_limits s k _ (rw (le-ltb j 64 (omega arith), and-false))) }
+  definition_class_big h = record { is = λ w0 w1 k i j p q. stopped st k w0 w1 _ OverMeasure (λ s _. over_limits s k _ (rw (le-ltb j 64 (omega arith), and-false))) }
 
 -- ---- the order, the parts, and the entry
 
@@ -108,12 +109,12 @@ module _ {st : Counts} {n c : ℕ} (t : Ty) (fine : Fine st) (typed : type_withi
   unfolding within_limits is_definition is_class
   within s = rw (lt-ltb n 32 low, lt-ltb c 64 class, typed)
 
-  pub definition_block : 4 < st.block → TookDefinition st n c t (Refused 5)
+  pub definition_block : 4 < st.block → TookDefinition st n c t (Err OutOfRow)
   unfolding block_of
   definition_block b = exactly (λ w0 w1 k. past_block st k w0 w1 (definition_line n c t) within b)
 
   module _ (in_block : st.block ≤ 4) where
-    pub definition_gap : (n ≡ st.definitions → ⊥) → TookDefinition st n c t (Refused 5)
+    pub definition_gap : (n ≡ st.definitions → ⊥) → TookDefinition st n c t (Err OutOfRow)
     unfolding block_of numbered
     definition_gap o = exactly (λ w0 w1 k. misnumbered st k w0 w1 (definition_line n c t) within in_block (λ s h. ne_eqb n (length s.definitions) (λ e. o (e ∙ sym h.counted.definitions))))
 
@@ -122,19 +123,19 @@ module _ {st : Counts} {n c : ℕ} (t : Ty) (fine : Fine st) (typed : type_withi
       unfolding numbered
       its_number w0 w1 s h = eq-eqb n (length s.definitions) (is_next ∙ h.counted.definitions)
 
-      pub definition_unknown : st.classes ≤ c → TookDefinition st n c t (Refused 6)
+      pub definition_unknown : st.classes ≤ c → TookDefinition st n c t (Err UnknownPart)
       unfolding block_of parts_known
       definition_unknown u =
           exactly (λ w0 w1 k. unknown st k w0 w1 (definition_line n c t) within in_block (its_number w0 w1) (λ s h. rw (le-ltb c (length s.parents) (omega (arith, h.counted.classes)))))
 
       module _ (known : c < st.classes) {b : Bool} (told : b ≡ class_below st.classes t) where
-        pub definition_unknown_type : not b ≡ true → TookDefinition st n c t (Refused 6)
+        pub definition_unknown_type : not b ≡ true → TookDefinition st n c t (Err UnknownPart)
         unfolding block_of parts_known
         definition_unknown_type u =
             exactly (λ w0 w1 k. unknown st k w0 w1 (definition_line n c t) within in_block (its_number w0 w1)
             (λ s h. rw (lt-ltb c (length s.parents) (omega (arith, h.counted.classes)), ← h.counted.classes, ← told, not-true b u)))
 
-        pub definition_put : {p : ℕ} → not b ≡ false → type_in p ≡ t → TookDefinition st n c t (Next (definition_counts st c p))
+        pub definition_put : {p : ℕ} → not b ≡ false → type_in p ≡ t → TookDefinition st n c t (Ok (definition_counts st c p))
         unfolding block_of parts_known calls_smaller calls_known suits tree_holds
         definition_put {p} y packed =
             exactly (λ w0 w1 k. passed st k w0 w1 _ (definition_counts st c p) _ (kept_refl w0) (search rules) (λ s h. (

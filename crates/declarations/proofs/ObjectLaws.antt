@@ -16,13 +16,14 @@ use Rattle.sheet.specs.Sheet.{Sheet, added}
 use Rattle.sheet.specs.Limits.{is_class, within_limits}
 use Rattle.sheet.specs.Refusals.{block_of, numbered, in_order, parts_known, calls_smaller, calls_known, suits, tree_holds}
 use Rattle.tables.specs.declared.Counts.{Counts}
-use Rattle.tables.specs.declared.Step.TheVariants.{Next, Refused}
 use Rattle.tables.specs.Layout.{Holds, Fine}
 use Rattle.tables.proofs.Tables.{kept_set}
 use Rattle.tables.proofs.Entries.{definitions_same, tab_next, holds_kept, spare_object, open_kept}
 use Rattle.tables.proofs.Steps.{steps_on}
 use Rattle.declarations.specs.Taken.{TookSpelled}
 use Rattle.declarations.proofs.TakenLaws.{passed, past_block, order_by_number, misnumbered, unknown}
+use Rattle.std.specs.Prelude.{Ok, Err}
+use Rattle.memory.specs.declared.refusals.Refusal.TheVariants.{OutOfRow, UnknownPart}
 
 -- the counts with object n
 abbrev pub object_counts : Counts → ℕ → Counts
@@ -88,12 +89,12 @@ module _ (st : Counts) (k : ℕ) (w0 w1 : List ℕ) (n c : ℕ) (low : n < 96) (
   unfolding within_limits is_class
   within s = rw (lt-ltb n 96 low, lt-ltb c 64 class)
 
-  pub object_block : 2 < st.block → TookSpelled st k (object_line n c) (Refused 5) w0 w1 w0 w1
+  pub object_block : 2 < st.block → TookSpelled st k (object_line n c) (Err OutOfRow) w0 w1 w0 w1
   unfolding block_of
   object_block = past_block st k w0 w1 (object_line n c) within
 
   module _ (in_block : st.block ≤ 2) where
-    pub object_gap : (n ≡ st.objects → ⊥) → TookSpelled st k (object_line n c) (Refused 5) w0 w1 w0 w1
+    pub object_gap : (n ≡ st.objects → ⊥) → TookSpelled st k (object_line n c) (Err OutOfRow) w0 w1 w0 w1
     unfolding block_of numbered
     object_gap o = misnumbered st k w0 w1 (object_line n c) within in_block (λ s h. ne_eqb n (length s.objects) (λ e. o (e ∙ sym h.counted.objects)))
 
@@ -106,12 +107,12 @@ module _ (st : Counts) (k : ℕ) (w0 w1 : List ℕ) (n c : ℕ) (low : n < 96) (
       unfolding block_of
       in_order_lem s h = order_by_number st k w0 w1 (object_line n c) within in_block s h.counted ∙ its_number s h
 
-      pub object_unknown : st.classes ≤ c → TookSpelled st k (object_line n c) (Refused 6) w0 w1 w0 w1
+      pub object_unknown : st.classes ≤ c → TookSpelled st k (object_line n c) (Err UnknownPart) w0 w1 w0 w1
       unfolding block_of parts_known
       object_unknown u =
           unknown st k w0 w1 (object_line n c) within in_block its_number (λ s h. le-ltb c (length s.parents) (omega (arith, h.counted.classes)))
 
-      pub object_put : Fine st → 8192 ≤ length w0 → c < st.classes → TookSpelled st k (object_line n c) (Next (object_counts st n)) w0 w1 (set w0 (memory.objects + n) c) w1
+      pub object_put : Fine st → 8192 ≤ length w0 → c < st.classes → TookSpelled st k (object_line n c) (Ok (object_counts st n)) w0 w1 (set w0 (memory.objects + n) c) w1
       unfolding parts_known calls_smaller calls_known suits tree_holds
       object_put fine room known =
           passed st k w0 w1 _ (object_counts st n) _ (kept_set w0 (memory.objects + n) c (omega arith)) (search rules) (λ s h. (

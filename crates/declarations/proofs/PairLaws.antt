@@ -9,7 +9,7 @@ use borrow.Author.Tests.{lt-ltb, le-ltb, ltb-true}
 use lib.Dec.{ltb}
 use lib.ListN.{length, get_or, drop, length-drop}
 use Rattle.laws.specs.Choice.{on_some, map_some}
-use Rattle.std.specs.Prelude.{if◌then◌else◌}
+use Rattle.std.specs.Prelude.{if◌then◌else◌, Some, None, Result, Ok, Err}
 use Rattle.sheet.specs.Text.{Bytes, bytes, fields_of}
 use Rattle.sheet.specs.Lines.{Line, object_line, rule_line, is, next, done, a_number, line_of}
 use Rattle.sheet.specs.Texts.{on_text}
@@ -18,24 +18,22 @@ use Rattle.sheet.specs.Limits.{is_class, within_limits}
 use Rattle.text.specs.Numbers.{cut_num}
 use Rattle.text.specs.Parts.{Cut}
 use Rattle.text.specs.declared.parts.Fields.{Fields}
-use Rattle.text.specs.declared.numbers.Num.TheVariants as num
 use Rattle.text.proofs.NumberLaws.{num_bad}
 use Rattle.text.proofs.PartLaws.{counted_exact}
 use Rattle.tables.proofs.LineFields.{word_is, takes_none, takes_more, field_bad, field_some, fields_done, the, num_some, num_cut}
 use Rattle.tables.specs.declared.Counts.{Counts}
-use Rattle.tables.specs.declared.Step.{Step}
-use Rattle.tables.specs.declared.Step.TheVariants as code
 use Rattle.tables.specs.Layout.{Took}
 use Rattle.tables.proofs.Steps.{over_limits}
 use Rattle.declarations.specs.Taken.{TookSpelled}
 use Rattle.declarations.specs.Fields.{two_numbers, pair_of}
-use Rattle.declarations.specs.declared.pairs.Pair.TheVariants.{Refused, Are}
 use Rattle.declarations.proofs.TakenLaws.{stopped, unspelled, spelled}
+use Rattle.memory.specs.declared.refusals.Refusal.{Refusal}
+use Rattle.memory.specs.declared.refusals.Refusal.TheVariants.{BadLine, OverMeasure}
 
 -- ---- the returns of `pair`
 
 module _ {line : Bytes} {f : Fields} (limit : ℕ) (cut : Cut line f) where
-  pub pair_count : (f.count ≡ 3 → ⊥) → Refused 3 ≡ pair_of limit (two_numbers (drop 1 (fields_of line)))
+  pub pair_count : (f.count ≡ 3 → ⊥) → Err BadLine ≡ pair_of limit (two_numbers (drop 1 (fields_of line)))
   unfolding pair_of two_numbers
   pair_count h =
       rw (takes_more {B = ℕ × ℕ} a_number (λ n. next a_number (λ c. done (n, c))) 1 (λ n. takes_more _ _ 0 (λ c. takes_none (n, c))) (drop 1 (fields_of line))
@@ -45,20 +43,20 @@ module _ {line : Bytes} {f : Fields} (limit : ℕ) (cut : Cut line f) where
     long : length (fields_of line) ≡ 3
     long = counted_exact cut (omega arith) ∙ three
 
-    pub pair_number : {x : Bytes} → x ≡ get_or (fields_of line) 1 [] → num.Bad ≡ cut_num (a_number x) → Refused 3 ≡ pair_of limit (two_numbers (drop 1 (fields_of line)))
+    pub pair_number : {x : Bytes} → x ≡ get_or (fields_of line) 1 [] → None ≡ cut_num (a_number x) → Err BadLine ≡ pair_of limit (two_numbers (drop 1 (fields_of line)))
     unfolding pair_of two_numbers
     pair_number {x} e h = rw (field_bad {B = ℕ × ℕ} a_number (λ n. next a_number (λ c. done (n, c))) (fields_of line) 1 (omega (arith, long)) (rw (← e) (num_bad (a_number x) h)))
 
-    module _ {x y : Bytes} (at1 : x ≡ get_or (fields_of line) 1 []) (at2 : y ≡ get_or (fields_of line) 2 []) {n : ℕ} (number : num.Is n ≡ cut_num (a_number x)) where
+    module _ {x y : Bytes} (at1 : x ≡ get_or (fields_of line) 1 []) (at2 : y ≡ get_or (fields_of line) 2 []) {n : ℕ} (number : Some n ≡ cut_num (a_number x)) where
       first : two_numbers (drop 1 (fields_of line)) ≡ next a_number (λ c. done (the (a_number x), c)) (drop 2 (fields_of line))
       unfolding two_numbers
       first = field_some a_number _ (fields_of line) 1 (omega (arith, long)) (rw (← at1) (num_some (a_number x) number))
 
-      pub pair_class : num.Bad ≡ cut_num (a_number y) → Refused 3 ≡ pair_of limit (two_numbers (drop 1 (fields_of line)))
+      pub pair_class : None ≡ cut_num (a_number y) → Err BadLine ≡ pair_of limit (two_numbers (drop 1 (fields_of line)))
       unfolding pair_of
       pair_class h = rw (first ∙ field_bad {B = ℕ × ℕ} a_number (λ c. done (the (a_number x), c)) (fields_of line) 2 (omega (arith, long)) (rw (← at2) (num_bad (a_number y) h)))
 
-      module _ {c : ℕ} (class : num.Is c ≡ cut_num (a_number y)) (small : limit ≤ 1000000) where
+      module _ {c : ℕ} (class : Some c ≡ cut_num (a_number y)) (small : limit ≤ 1000000) where
         both : two_numbers (drop 1 (fields_of line)) ≡ some (the (a_number x), the (a_number y))
         both =
             first
@@ -71,16 +69,16 @@ module _ {line : Bytes} {f : Fields} (limit : ℕ) (cut : Cut line f) where
         cut2 : c ≡ min (the (a_number y)) 1000000
         cut2 = num_cut (a_number y) class
 
-        pub pair_over : limit ≤ n → Refused 4 ≡ pair_of limit (two_numbers (drop 1 (fields_of line)))
+        pub pair_over : limit ≤ n → Err OverMeasure ≡ pair_of limit (two_numbers (drop 1 (fields_of line)))
         unfolding pair_of
         pair_over h = rw (both, le-ltb (the (a_number x)) limit (omega (arith, cut1)))
 
         module _ (low : n < limit) where
-          pub pair_over_class : 64 ≤ c → Refused 4 ≡ pair_of limit (two_numbers (drop 1 (fields_of line)))
+          pub pair_over_class : 64 ≤ c → Err OverMeasure ≡ pair_of limit (two_numbers (drop 1 (fields_of line)))
           unfolding pair_of is_class
           pair_over_class h = rw (both, lt-ltb (the (a_number x)) limit (omega (arith, cut1)), le-ltb (the (a_number y)) 64 (omega (arith, cut2)))
 
-          pub pair_are : c < 64 → Are n c ≡ pair_of limit (two_numbers (drop 1 (fields_of line)))
+          pub pair_are : c < 64 → Ok (n, c) ≡ pair_of limit (two_numbers (drop 1 (fields_of line)))
           unfolding pair_of is_class
           pair_are h =
               let p : the (a_number x) ≡ n = omega (arith, cut1) in
@@ -125,12 +123,12 @@ pub record Within (limit : ℕ) (o : Option (ℕ × ℕ)) (n c : ℕ) : Type 0 w
   pub low : n < limit
   pub class : c < 64
 
-pub pair_within : {n c : ℕ} (limit : ℕ) (o : Option (ℕ × ℕ)) → Are n c ≡ pair_of limit o → Within limit o n c
+pub pair_within : {n c : ℕ} (limit : ℕ) (o : Option (ℕ × ℕ)) → ◌≡◌ {A = Result (ℕ × ℕ) Refusal} (Ok (n, c)) (pair_of limit o) → Within limit o n c
 unfolding pair_of is_class
 pair_within limit none h = absurd (let z : ◌≡◌ {A = ℕ} 0 1 = cc in omega arith)
 pair_within {n} {c} limit (some p) h = go (ltb p.0 limit) refl (ltb p.1 64) refl h
   where
-    go : (a : Bool) → a ≡ ltb p.0 limit → (b : Bool) → b ≡ ltb p.1 64 → Are n c ≡ (if a && b then Are p.0 p.1 else Refused 4) → Within limit (some p) n c
+    go : (a : Bool) → a ≡ ltb p.0 limit → (b : Bool) → b ≡ ltb p.1 64 → ◌≡◌ {A = Result (ℕ × ℕ) Refusal} (Ok (n, c)) (if a && b then Ok (p.0, p.1) else Err OverMeasure) → Within limit (some p) n c
     go true d true e q =
         let i : n ≡ p.0 = cc in
         let j : c ≡ p.1 = cc in
@@ -143,21 +141,21 @@ module _ (st : Counts) (k : ℕ) (w0 w1 : List ℕ) (line : Bytes) (o : Option (
     (reads : line_of (fields_of line) ≡ map_some (λ p. to p.0 p.1) o)
     (plain : (n c : ℕ) (test : Bytes → Bool) → on_text (to n c) test ≡ true)
     (limits : (s : Sheet) (n c : ℕ) → within_limits s (to n c) ≡ (ltb n limit && is_class c)) where
-  pub pair_stopped : {n : ℕ} → Refused n ≡ pair_of limit o → Took st k line (code.Refused n) w0 w1 w0 w1
+  pub pair_stopped : {e : Refusal} → Err e ≡ pair_of limit o → Took st k line (Err e) w0 w1 w0 w1
   unfolding pair_of map_some
-  pair_stopped {n} h = go o reads h
+  pair_stopped {e} h = go o reads h
     where
       by_limits : (p : ℕ × ℕ) (b : Bool) → b ≡ (ltb p.0 limit && is_class p.1) → line_of (fields_of line) ≡ some (to p.0 p.1)
-          → Refused n ≡ (if b then Are p.0 p.1 else Refused 4) → Took st k line (code.Refused n) w0 w1 w0 w1
-      by_limits p true e r h = absurd (let z : ◌≡◌ {A = ℕ} 0 1 = cc in omega arith)
-      by_limits p false e r h =
-          let four : n ≡ 4 = cc in
-          rw four (spelled line (plain p.0 p.1) r (stopped st k w0 w1 _ 4 (λ s q. over_limits s k _ (limits s p.0 p.1 ∙ sym e))))
+          → ◌≡◌ {A = Result (ℕ × ℕ) Refusal} (Err e) (if b then Ok (p.0, p.1) else Err OverMeasure) → Took st k line (Err e) w0 w1 w0 w1
+      by_limits p true d r h = absurd (let z : ◌≡◌ {A = ℕ} 0 1 = cc in omega arith)
+      by_limits p false d r h =
+          let is : e ≡ OverMeasure = cc in
+          rw is (spelled line (plain p.0 p.1) r (stopped st k w0 w1 _ OverMeasure (λ s q. over_limits s k _ (limits s p.0 p.1 ∙ sym d))))
 
-      go : (o : Option (ℕ × ℕ)) → line_of (fields_of line) ≡ map_some (λ p. to p.0 p.1) o → Refused n ≡ pair_of limit o → Took st k line (code.Refused n) w0 w1 w0 w1
-      go none r h = let three : n ≡ 3 = cc in rw three (unspelled st k w0 w1 line r)
+      go : (o : Option (ℕ × ℕ)) → line_of (fields_of line) ≡ map_some (λ p. to p.0 p.1) o → Err e ≡ pair_of limit o → Took st k line (Err e) w0 w1 w0 w1
+      go none r h = let is : e ≡ BadLine = cc in rw is (unspelled st k w0 w1 line r)
       go (some p) r h = by_limits p (ltb p.0 limit && is_class p.1) refl r h
 
-  pub pair_taken : {n c : ℕ} {r : Step} {v0 v1 : List ℕ} → o ≡ some (n, c) → TookSpelled st k (to n c) r w0 w1 v0 v1 → Took st k line r w0 w1 v0 v1
+  pub pair_taken : {n c : ℕ} {r : Result Counts Refusal} {v0 v1 : List ℕ} → o ≡ some (n, c) → TookSpelled st k (to n c) r w0 w1 v0 v1 → Took st k line r w0 w1 v0 v1
   unfolding map_some
   pair_taken {n} {c} e t = spelled line (plain n c) (reads ∙ ap (map_some (λ p. to p.0 p.1)) e) t

@@ -12,11 +12,11 @@ use Rattle.sheet.specs.Spelling.{read_type}
 use Rattle.sheet.specs.Lines.{row_line, is, next, done, a_number, line_of}
 use Rattle.text.specs.Numbers.{cut_num}
 use Rattle.text.specs.declared.parts.Fields.{Fields}
-use Rattle.text.specs.declared.numbers.Num.TheVariants as num
 use Rattle.text.proofs.NumberLaws.{num_bad}
 use Rattle.text.proofs.PartLaws.{counted_exact}
 use Rattle.tables.proofs.LineFields.{word_is, takes_none, takes_more, field_bad, field_some, fields_done, the, num_some, num_exact}
 use Rattle.declarations.specs.Taken.{Lettered}
+use Rattle.std.specs.Prelude.{Some, None}
 
 row_fields : (fs : List Bytes) → is (get_or fs 0 []) (bytes "A") ≡ true
     → line_of fs ≡ next a_number (λ n. next a_number (λ c. next a_number (λ name. next read_type (λ t. done (row_line n c name t))))) (drop 1 fs)
@@ -39,24 +39,24 @@ module _ {line : Bytes} {f : Fields} (so : Lettered "A" line f) where
     long = counted_exact so.cut (omega arith) ∙ five
 
     module _ {x : Bytes} (at1 : x ≡ get_or (fields_of line) 1 []) where
-      pub row_number : num.Bad ≡ cut_num (a_number x) → line_of (fields_of line) ≡ none
+      pub row_number : None ≡ cut_num (a_number x) → line_of (fields_of line) ≡ none
       row_number h = reads ∙ field_bad a_number _ (fields_of line) 1 (omega (arith, long)) (rw (← at1) (num_bad (a_number x) h))
 
-      module _ {y : Bytes} (at2 : y ≡ get_or (fields_of line) 2 []) {n : ℕ} (number : num.Is n ≡ cut_num (a_number x)) where
+      module _ {y : Bytes} (at2 : y ≡ get_or (fields_of line) 2 []) {n : ℕ} (number : Some n ≡ cut_num (a_number x)) where
         first : line_of (fields_of line) ≡ next a_number (λ c. next a_number (λ name. next read_type (λ t. done (row_line (the (a_number x)) c name t)))) (drop 2 (fields_of line))
         first = reads ∙ field_some a_number _ (fields_of line) 1 (omega (arith, long)) (rw (← at1) (num_some (a_number x) number))
 
-        pub row_class : num.Bad ≡ cut_num (a_number y) → line_of (fields_of line) ≡ none
+        pub row_class : None ≡ cut_num (a_number y) → line_of (fields_of line) ≡ none
         row_class h = first ∙ field_bad a_number _ (fields_of line) 2 (omega (arith, long)) (rw (← at2) (num_bad (a_number y) h))
 
-        module _ {z : Bytes} (at3 : z ≡ get_or (fields_of line) 3 []) {c : ℕ} (class : num.Is c ≡ cut_num (a_number y)) where
+        module _ {z : Bytes} (at3 : z ≡ get_or (fields_of line) 3 []) {c : ℕ} (class : Some c ≡ cut_num (a_number y)) where
           second : line_of (fields_of line) ≡ next a_number (λ name. next read_type (λ t. done (row_line (the (a_number x)) (the (a_number y)) name t))) (drop 3 (fields_of line))
           second = first ∙ field_some a_number _ (fields_of line) 2 (omega (arith, long)) (rw (← at2) (num_some (a_number y) class))
 
-          pub row_name : num.Bad ≡ cut_num (a_number z) → line_of (fields_of line) ≡ none
+          pub row_name : None ≡ cut_num (a_number z) → line_of (fields_of line) ≡ none
           row_name h = second ∙ field_bad a_number _ (fields_of line) 3 (omega (arith, long)) (rw (← at3) (num_bad (a_number z) h))
 
-          module _ {v : Bytes} (at4 : v ≡ get_or (fields_of line) 4 []) {name : ℕ} (named : num.Is name ≡ cut_num (a_number z)) where
+          module _ {v : Bytes} (at4 : v ≡ get_or (fields_of line) 4 []) {name : ℕ} (named : Some name ≡ cut_num (a_number z)) where
             third : line_of (fields_of line) ≡ next read_type (λ t. done (row_line (the (a_number x)) (the (a_number y)) (the (a_number z)) t)) (drop 4 (fields_of line))
             third = second ∙ field_some a_number _ (fields_of line) 3 (omega (arith, long)) (rw (← at3) (num_some (a_number z) named))
 

@@ -20,7 +20,6 @@ use Rattle.sheet.specs.Limits.{is_class, class_below, type_within, within_limits
 use Rattle.sheet.specs.Refusals.{declares, block_of, numbered, in_order, parts_known, calls_smaller, calls_known, suits, tree_holds}
 use Rattle.types.specs.Word.{type_in}
 use Rattle.tables.specs.declared.Counts.{Counts}
-use Rattle.tables.specs.declared.Step.TheVariants.{Next, Refused}
 use Rattle.tables.specs.Layout.{tab, Holds, Fine, Kept}
 use Rattle.tables.proofs.Tables.{kept_set, kept_then}
 use Rattle.tables.proofs.Entries.{definitions_same, tab_more_of, tab_more_by, holds_kept, spare_owner, spare_name, spare_type, open_kept}
@@ -29,6 +28,8 @@ use Rattle.declarations.specs.Fields.{named_in}
 use Rattle.declarations.specs.Taken.{TookSpelled}
 use Rattle.declarations.proofs.TakenLaws.{stopped, passed, past_block, order_by_number, misnumbered, unknown}
 use Rattle.declarations.proofs.KnownLaws.{declares_rows}
+use Rattle.std.specs.Prelude.{Ok, Err}
+use Rattle.memory.specs.declared.refusals.Refusal.TheVariants.{OverMeasure, OutOfRow, UnknownPart}
 
 -- ---- the limits
 
@@ -53,16 +54,16 @@ are_low n c name h = go (ltb n 64) refl (ltb c 64) refl (ltb name 256) refl h
 module _ (st : Counts) (k : ℕ) (w0 w1 : List ℕ) (n c name : ℕ) (t : Ty) where
   -- by the numbers as they are read
   pub row_over : {m d e : ℕ} → m ≡ min n 1000000 → d ≡ min c 1000000 → e ≡ min name 1000000 → all_low m d e ≡ false
-      → TookSpelled st k (row_line n c name t) (Refused 4) w0 w1 w0 w1
+      → TookSpelled st k (row_line n c name t) (Err OverMeasure) w0 w1 w0 w1
   unfolding within_limits is_class
   row_over p q r h =
-      stopped st k w0 w1 _ 4 (λ s _.
+      stopped st k w0 w1 _ OverMeasure (λ s _.
       over_limits s k _
       (rw (rw (p, q, r, cut_lt n 1000000 64 (omega arith), cut_lt c 1000000 64 (omega arith), cut_lt name 1000000 256 (omega arith)) at h)))
 
-  pub row_over_type : type_within t ≡ false → TookSpelled st k (row_line n c name t) (Refused 4) w0 w1 w0 w1
-  unfolding within_limits
-  row_over_type h = stopped st k w0 w1 _ 4 (λ s _. over_limits s k _ (rw (h, and-false)))
+pub row_over_type : (n c name : ℕ) (t : Ty) → type_within t ≡ false → (s : Sheet) → within_limits s (row_line n c name t) ≡ false
+unfolding within_limits
+row_over_type n c name t h s = rw (h, and-false)
 
 -- ---- the entry
 
@@ -152,12 +153,12 @@ module _ (st : Counts) (k : ℕ) (w0 w1 : List ℕ) (n c name : ℕ) (t : Ty) (l
   unfolding within_limits
   within s = rw (low, typed)
 
-  pub row_block : 1 < st.block → TookSpelled st k (row_line n c name t) (Refused 5) w0 w1 w0 w1
+  pub row_block : 1 < st.block → TookSpelled st k (row_line n c name t) (Err OutOfRow) w0 w1 w0 w1
   unfolding block_of
   row_block = past_block st k w0 w1 (row_line n c name t) within
 
   module _ (in_block : st.block ≤ 1) where
-    pub row_gap : (n ≡ st.rows → ⊥) → TookSpelled st k (row_line n c name t) (Refused 5) w0 w1 w0 w1
+    pub row_gap : (n ≡ st.rows → ⊥) → TookSpelled st k (row_line n c name t) (Err OutOfRow) w0 w1 w0 w1
     unfolding block_of numbered
     row_gap o =
         misnumbered st k w0 w1 (row_line n c name t) within in_block (λ s h. rw (ne_eqb n (length s.rows) (λ e. o (e ∙ sym h.counted.rows))))
@@ -173,7 +174,7 @@ module _ (st : Counts) (k : ℕ) (w0 w1 : List ℕ) (n c name : ℕ) (t : Ty) (l
       unfolding numbered
       its_number s h = rw (eq-eqb n (length s.rows) (is_next ∙ h.counted.rows), by_rows s h)
 
-      pub row_twice : d ≡ true → TookSpelled st k (row_line n c name t) (Refused 5) w0 w1 w0 w1
+      pub row_twice : d ≡ true → TookSpelled st k (row_line n c name t) (Err OutOfRow) w0 w1 w0 w1
       unfolding block_of
       row_twice y = misnumbered st k w0 w1 (row_line n c name t) within in_block (λ s h. its_number s h ∙ ap not y)
 
@@ -185,20 +186,20 @@ module _ (st : Counts) (k : ℕ) (w0 w1 : List ℕ) (n c name : ℕ) (t : Ty) (l
         unfolding block_of
         in_order_lem s h = order_by_number st k w0 w1 (row_line n c name t) within in_block s h.counted ∙ new_number s h
 
-        pub row_unknown : st.classes ≤ c → TookSpelled st k (row_line n c name t) (Refused 6) w0 w1 w0 w1
+        pub row_unknown : st.classes ≤ c → TookSpelled st k (row_line n c name t) (Err UnknownPart) w0 w1 w0 w1
         unfolding block_of parts_known
         row_unknown u =
             unknown st k w0 w1 (row_line n c name t) within in_block new_number (λ s h. rw (le-ltb c (length s.parents) (omega (arith, h.counted.classes))))
 
         module _ (known : c < st.classes) {b : Bool} (told : b ≡ class_below st.classes t) where
-          pub row_unknown_type : b ≡ false → TookSpelled st k (row_line n c name t) (Refused 6) w0 w1 w0 w1
+          pub row_unknown_type : b ≡ false → TookSpelled st k (row_line n c name t) (Err UnknownPart) w0 w1 w0 w1
           unfolding block_of parts_known
           row_unknown_type u =
               unknown st k w0 w1 (row_line n c name t) within in_block new_number
               (λ s h. rw (lt-ltb c (length s.parents) (omega (arith, h.counted.classes)), ← h.counted.classes, ← told, u))
 
           pub row_put : (p : ℕ) → b ≡ true → type_in p ≡ t → Fine st → 8192 ≤ length w0
-              → TookSpelled st k (row_line n c name t) (Next (row_counts st n)) w0 w1 (row_words w0 n c name p) w1
+              → TookSpelled st k (row_line n c name t) (Ok (row_counts st n)) w0 w1 (row_words w0 n c name p) w1
           unfolding parts_known calls_smaller calls_known suits tree_holds
           row_put p y packed fine room =
               let small : n < 64 = (are_low n c name low).number in

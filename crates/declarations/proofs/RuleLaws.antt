@@ -15,13 +15,14 @@ use Rattle.sheet.specs.Sheet.{Sheet, added}
 use Rattle.sheet.specs.Limits.{is_class, within_limits}
 use Rattle.sheet.specs.Refusals.{block_of, numbered, in_order, parts_known, calls_smaller, calls_known, suits, tree_holds}
 use Rattle.tables.specs.declared.Counts.{Counts}
-use Rattle.tables.specs.declared.Step.TheVariants.{Next, Refused}
 use Rattle.tables.specs.Layout.{open_code, HoldsCurrent, opened, Holds, Fine}
 use Rattle.tables.proofs.Tables.{kept_refl}
 use Rattle.tables.proofs.Entries.{definitions_same, tables_same}
 use Rattle.tables.proofs.Steps.{steps_on}
 use Rattle.declarations.specs.Taken.{TookSpelled}
 use Rattle.declarations.proofs.TakenLaws.{passed, past_block, order_by_number, misnumbered, unknown}
+use Rattle.std.specs.Prelude.{Ok, Err}
+use Rattle.memory.specs.declared.refusals.Refusal.TheVariants.{OutOfRow, UnknownPart}
 
 -- the counts with a rule of context c open
 abbrev pub rule_counts : Counts → ℕ → Counts
@@ -85,12 +86,12 @@ module _ (st : Counts) (k : ℕ) (w0 w1 : List ℕ) (n c : ℕ) (low : n < 64) (
   unfolding is_class
   within s = rule_limits s n c ∙ rw (lt-ltb n 64 low, lt-ltb c 64 class)
 
-  pub rule_block : 5 < st.block → TookSpelled st k (rule_line n c) (Refused 5) w0 w1 w0 w1
+  pub rule_block : 5 < st.block → TookSpelled st k (rule_line n c) (Err OutOfRow) w0 w1 w0 w1
   unfolding block_of
   rule_block = past_block st k w0 w1 (rule_line n c) within
 
   module _ (in_block : st.block ≤ 5) where
-    pub rule_gap : (n ≡ st.rules → ⊥) → TookSpelled st k (rule_line n c) (Refused 5) w0 w1 w0 w1
+    pub rule_gap : (n ≡ st.rules → ⊥) → TookSpelled st k (rule_line n c) (Err OutOfRow) w0 w1 w0 w1
     unfolding block_of numbered
     rule_gap o = misnumbered st k w0 w1 (rule_line n c) within in_block (λ s h. ne_eqb n (length s.rules) (λ e. o (e ∙ sym h.counted.rules)))
 
@@ -103,12 +104,12 @@ module _ (st : Counts) (k : ℕ) (w0 w1 : List ℕ) (n c : ℕ) (low : n < 64) (
       unfolding block_of
       in_order_lem s h = order_by_number st k w0 w1 (rule_line n c) within in_block s h.counted ∙ its_number s h
 
-      pub rule_unknown : st.classes ≤ c → TookSpelled st k (rule_line n c) (Refused 6) w0 w1 w0 w1
+      pub rule_unknown : st.classes ≤ c → TookSpelled st k (rule_line n c) (Err UnknownPart) w0 w1 w0 w1
       unfolding block_of parts_known
       rule_unknown u =
           unknown st k w0 w1 (rule_line n c) within in_block its_number (λ s h. le-ltb c (length s.parents) (omega (arith, h.counted.classes)))
 
-      pub rule_put : Fine st → c < st.classes → TookSpelled st k (rule_line n c) (Next (rule_counts st c)) w0 w1 w0 w1
+      pub rule_put : Fine st → c < st.classes → TookSpelled st k (rule_line n c) (Ok (rule_counts st c)) w0 w1 w0 w1
       unfolding parts_known calls_smaller calls_known suits tree_holds
       rule_put fine known =
           passed st k w0 w1 _ (rule_counts st c) _ (kept_refl w0) (search rules) (λ s h. (

@@ -7,62 +7,57 @@ ghost use Rattle.declarations.specs.Taken.{Lettered, TookDefinition};
 
 use super::rows::class_known;
 use memory::lines;
-use tables::{Counts, Step};
-use text::numbers::{Num, number};
+use memory::refusals::Refusal;
+use tables::Counts;
+use text::numbers::number;
 use text::parts::{Fields, field};
+use types::FlatType;
 use types::reading::read_type;
 use types::word::pack;
-use types::{FlatType, GotType};
 
 // A D line. No word changes: the definition goes into its tables when it ends.
-pub fn definition_line(line: &[u8], f: Fields, st: Counts) -> Step
+pub fn definition_line(line: &[u8], f: Fields, st: Counts) -> Result<Counts, Refusal>
     requires { Lettered "D" line.now f × Fine st }
     ensures { (w0 w1 : List ℕ) (k : ℕ) → Took st k line.now result w0 w1 w0 w1 }
 {
     if f.count != 4 {
-        return Step::Refused(3);
+        return Err(Refusal::BadLine);
     }
-    let Num::Is(n) = number(field(line, f, 1)) else {
-        return Step::Refused(3);
-    };
-    let Num::Is(c) = number(field(line, f, 2)) else {
-        return Step::Refused(3);
-    };
-    match read_type(field(line, f, 3)) {
-        GotType::Bad => Step::Refused(3),
-        GotType::Big => Step::Refused(4),
-        GotType::Is(t) => open_definition(st, n, c, t),
-    }
+    let n = number(field(line, f, 1)).ok_or(Refusal::BadLine)?;
+    let c = number(field(line, f, 2)).ok_or(Refusal::BadLine)?;
+    let t = read_type(field(line, f, 3))?;
+    open_definition(st, n, c, t)
 }
 
 // Opens the definition, whose type is within its limits.
-fn open_definition(st: Counts, n: u64, c: u64, t: FlatType) -> Step
+fn open_definition(st: Counts, n: u64, c: u64, t: FlatType) -> Result<Counts, Refusal>
     requires { Fine st × (type_within (ty_of t) ≡ true) }
     ensures { TookDefinition st n c (ty_of t) result }
 {
     if memory::MOST_DEFINITIONS <= n {
-        return Step::Refused(4);
+        return Err(Refusal::OverMeasure);
     }
     if memory::MOST_CLASSES <= c {
-        return Step::Refused(4);
+        return Err(Refusal::OverMeasure);
     }
     if lines::DEFINITIONS < st.block {
-        return Step::Refused(5);
+        return Err(Refusal::OutOfRow);
     }
     if n != st.definitions {
-        return Step::Refused(5);
+        return Err(Refusal::OutOfRow);
     }
     if st.classes <= c {
-        return Step::Refused(6);
+        return Err(Refusal::UnknownPart);
     }
     if !class_known(t, st.classes) {
-        return Step::Refused(6);
+        return Err(Refusal::UnknownPart);
     }
-    let mut next = st;
-    next.block = lines::DEFINITIONS;
-    next.open = lines::DEFINITION_OPEN;
-    next.context = c;
-    next.result = pack(t);
-    next.first = st.nodes;
-    Step::Next(next)
+    Ok(Counts {
+        block: lines::DEFINITIONS,
+        open: lines::DEFINITION_OPEN,
+        context: c,
+        result: pack(t),
+        first: st.nodes,
+        ..st
+    })
 }

@@ -5,40 +5,40 @@ ghost use Rattle.sheet.specs.Lines.{rule_line};
 ghost use Rattle.tables.specs.Layout.{Fine, Took};
 ghost use Rattle.declarations.specs.Taken.{Lettered, TookSpelled};
 
-use super::pairs::{Pair, read_pair};
+use super::pairs::read_pair;
 use memory::lines;
-use tables::{Counts, Step};
+use memory::refusals::Refusal;
+use tables::Counts;
 use text::parts::Fields;
 
 // An R line. No word changes: the rule goes into its table when it ends.
-pub fn rule_line(line: &[u8], f: Fields, st: Counts) -> Step
+pub fn rule_line(line: &[u8], f: Fields, st: Counts) -> Result<Counts, Refusal>
     requires { Lettered "R" line.now f × Fine st }
     ensures { (w0 w1 : List ℕ) (k : ℕ) → Took st k line.now result w0 w1 w0 w1 }
 {
-    match read_pair(line, f, memory::MOST_RULES) {
-        Pair::Refused(n) => Step::Refused(n),
-        Pair::Are(n, c) => open_rule(st, n, c),
-    }
+    let (n, c) = read_pair(line, f, memory::MOST_RULES)?;
+    open_rule(st, n, c)
 }
 
 // Opens the rule, whose number and class are within their limits.
-fn open_rule(st: Counts, n: u64, c: u64) -> Step
+fn open_rule(st: Counts, n: u64, c: u64) -> Result<Counts, Refusal>
     requires { Fine st × (n < most_rules) × (c < most_classes) }
     ensures { (w0 w1 : List ℕ) (k : ℕ) → TookSpelled st k (rule_line n c) result w0 w1 w0 w1 }
 {
     if lines::RULES < st.block {
-        return Step::Refused(5);
+        return Err(Refusal::OutOfRow);
     }
     if n != st.rules {
-        return Step::Refused(5);
+        return Err(Refusal::OutOfRow);
     }
     if st.classes <= c {
-        return Step::Refused(6);
+        return Err(Refusal::UnknownPart);
     }
-    let mut next = st;
-    next.block = lines::RULES;
-    next.open = lines::RULE_OPEN;
-    next.context = c;
-    next.first = st.nodes;
-    Step::Next(next)
+    Ok(Counts {
+        block: lines::RULES,
+        open: lines::RULE_OPEN,
+        context: c,
+        first: st.nodes,
+        ..st
+    })
 }

@@ -21,28 +21,27 @@ use Rattle.emission.specs.Nodes.{HoldsNodes}
 use Rattle.importer.specs.Lets.{SameLets}
 use Rattle.importer.specs.Answers.{Answers}
 use Rattle.importer.specs.Descent.{Room, FoundOne, FoundAt, found_none, found_one}
-use Rattle.importer.specs.declared.Found.{Found}
-use Rattle.importer.specs.declared.Found.TheVariants.{No, Is}
 use Rattle.importer.proofs.LetLaws.{lets_refl, lets_then}
+use Rattle.std.specs.Prelude.{Option as Optional, Some, None}
 
-module _ {l : Level} {k : ℕ} {s : Bytes} {t : Token} {n d : ℕ} {w : List ℕ} {r : Found} {v : List ℕ} (h : FoundAt l k s t n d w r v) where
+module _ {l : Level} {k : ℕ} {s : Bytes} {t : Token} {n d : ℕ} {w : List ℕ} {r : Optional (Token × ℕ)} {v : List ℕ} (h : FoundAt l k s t n d w r v) where
   pub found_kept : Kept w v
   found_kept = go h
     where
-      go : {r : Found} → FoundAt l k s t n d w r v → Kept w v
+      go : {r : Optional (Token × ℕ)} → FoundAt l k s t n d w r v → Kept w v
       go (found_none a x) = x
       go (found_one x) = x.wrote.kept
 
-  pub no_answer : r ≡ No → Answers l (onward s t) none
+  pub no_answer : r ≡ None → Answers l (onward s t) none
   no_answer e = go (rw e at h)
     where
-      go : FoundAt l k s t n d w No v → Answers l (onward s t) none
+      go : FoundAt l k s t n d w None v → Answers l (onward s t) none
       go (found_none a x) = a
 
-  pub one_found : {u : Token} {m : ℕ} → r ≡ Is u m → FoundOne l k s t n d w u m v
+  pub one_found : {u : Token} {m : ℕ} → r ≡ Some (u, m) → FoundOne l k s t n d w u m v
   one_found {u} {m} e = go (rw e at h)
     where
-      go : FoundAt l k s t n d w (Is u m) v → FoundOne l k s t n d w u m v
+      go : FoundAt l k s t n d w (Some (u, m)) v → FoundOne l k s t n d w u m v
       go (found_one x) = x
 
 -- ---- what comes next has room
@@ -115,7 +114,7 @@ module _ {R : Tree → Tokens → parser.Found → Type 0} {k : ℕ} {s : Bytes}
 
     -- what was found of a tighter level, grown
     pub found_grown : {l l' : Level} {t : Token} {n : ℕ} {w : List ℕ} → (y : FoundOne l' k s t n d w u m v) → Answers l (onward s t) (some (x.grows y.tree, onward s u'))
-        → FoundAt l k s t n d w (Is u' m') v'
+        → FoundAt l k s t n d w (Some (u', m')) v'
     found_grown {n = n} y a = found_one {m = m'} record {
       tree = x.grows y.tree;
       answers = a;

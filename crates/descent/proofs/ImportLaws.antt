@@ -6,7 +6,7 @@ use mathlib.Core.Option.{none, some}
 use mathlib.Core.List.{List, []}
 use Prim.Native.Nat.{ℕ, ◌+◌, ◌*◌}
 use native.Mathlib.Omega.{arith}
-use lib.ListN.{length, drop}
+use lib.ListN.{length}
 use Rattle.laws.specs.Choice.{on_some}
 use Rattle.sheet.specs.Text.{Bytes}
 use Rattle.sheet.specs.Texts.{is_there, is_sentence}
@@ -20,10 +20,8 @@ use Rattle.emission.specs.Nodes.{HoldsNodes}
 use Rattle.importer.specs.Answers.{Answers}
 use Rattle.importer.specs.Descent.{FoundOne, FoundAt}
 use Rattle.importer.specs.Imports.{no_sentence, a_sentence, Imports}
-use Rattle.importer.specs.declared.Found.{Found}
-use Rattle.importer.specs.declared.Found.TheVariants.{No, Is}
-use Rattle.importer.specs.declared.Imported.TheVariants as imported
 use Rattle.descent.proofs.FoundLaws.{found_kept, no_answer, one_found}
+use Rattle.std.specs.Prelude.{Option as Optional, Some, None}
 
 no_nodes : {k : ℕ} (w : List ℕ) → HoldsNodes k [] w
 no_nodes w = record { at = λ i l. absurd (omega arith) }
@@ -34,27 +32,27 @@ reading_is a o h = rw (h.answers (16 * length a + rank whole) (omega arith))
 
 module _ {s : Bytes} {t : Token} (first : NextIs s 0 t) where
   reading : (o : parser.Found) → Answers whole (onward s t) o → reading_of s ≡ on_some o at_end
-  unfolding reading_of drop
+  unfolding reading_of
   reading o h = ap sentence first.rest ∙ reading_is (onward s t) o h
 
   refused : reading_of s ≡ none → is_sentence s ≡ false
   unfolding is_sentence is_there
   refused e = rw e
 
-  module _ {k : ℕ} {w : List ℕ} {r : Found} {v : List ℕ} (x : FoundAt whole k s t 0 0 w r v) where
-    pub import_none : r ≡ No → Imports k s w imported.No v
+  module _ {k : ℕ} {w : List ℕ} {r : Optional (Token × ℕ)} {v : List ℕ} (x : FoundAt whole k s t 0 0 w r v) where
+    pub import_none : r ≡ None → Imports k s w None v
     unfolding on_some
     import_none e = record { is = no_sentence (refused (reading none (no_answer x e))); kept = found_kept x }
 
-    module _ {u : Token} {m : ℕ} (e : r ≡ Is u m) where
+    module _ {u : Token} {m : ℕ} (e : r ≡ Some (u, m)) where
       found : FoundOne whole k s t 0 0 w u m v
       found = one_found x e
 
-      pub import_longer : u.code ≢ 65 → Imports k s w imported.No v
+      pub import_longer : u.code ≢ 65 → Imports k s w None v
       unfolding on_some at_end
       import_longer n = record { is = no_sentence (refused (reading (some (found.tree, onward s u)) found.answers ∙ rw (found.ahead.one n).1)); kept = found_kept x }
 
-      pub import_all : u.code ≡ 65 → Imports k s w (imported.Is m) v
+      pub import_all : u.code ≡ 65 → Imports k s w (Some m) v
       unfolding on_some at_end
       import_all z = record {
         is = a_sentence {n = m} record {

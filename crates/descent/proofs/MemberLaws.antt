@@ -20,8 +20,6 @@ use Rattle.nodes.specs.Nodes.{assemble_code}
 use Rattle.tokens.specs.declared.Token.{Token}
 use Rattle.tokens.specs.Meanings.{onward, Ahead}
 use Rattle.phrases.specs.Meanings.{AfterIs, after_none, after_one}
-use Rattle.phrases.specs.declared.After.{After}
-use Rattle.phrases.specs.declared.After.TheVariants as after
 use Rattle.shapes.specs.Fields.{cut, four}
 use Rattle.shapes.specs.Forms.{StandsFor}
 use Rattle.shapes.specs.Built.{Assembles}
@@ -29,13 +27,12 @@ use Rattle.shapes.specs.declared.Parsed.{Parsed}
 use Rattle.emission.specs.Nodes.{HoldsNodes, Emitted}
 use Rattle.importer.specs.Descent.{Room, FoundOne, FoundAt}
 use Rattle.importer.specs.Steps.{BegunAt, begun_none, begun_one}
-use Rattle.importer.specs.declared.Found.{Found}
-use Rattle.importer.specs.declared.Found.TheVariants.{No, Is}
 use Rattle.importer.proofs.LetLaws.{lets_refl}
 use Rattle.importer.proofs.PutLaws.{put_as}
 use Rattle.importer.proofs.PrimaryLaws.{Members, collection_by, members_over, member_none, member_last, member_open, member_more}
 use Rattle.descent.proofs.WroteLaws.{Lays, lays_tree, lays_put, lays_then, wrote_by, root_is}
 use Rattle.descent.proofs.FoundLaws.{found_kept, no_answer, one_found}
+use Rattle.std.specs.Prelude.{Option as Optional, Some, None}
 
 -- ---- members, and more of them
 
@@ -163,12 +160,12 @@ module _ {k : ℕ} {s : Bytes} {t : Token} {n d : ℕ} {before at : List ℕ} {m
   pub gathering_long : (v : ℕ) → length (set at m v) ≡ 4
   gathering_long v = length-set at m v ∙ g.long
 
-  none_begun : {a : Kind} {v : List ℕ} → Kept w v → Members 4 (onward s t) none → BegunAt (Start.collection a (onward s t)) k s t n d before No v
+  none_begun : {a : Kind} {v : List ℕ} → Kept w v → Members 4 (onward s t) none → BegunAt (Start.collection a (onward s t)) k s t n d before None v
   unfolding map_some
   none_begun {a} x h = begun_none (λ s₀ l e. collection_by s₀ a (onward s t) none l e h) (kept_then gathering_kept x)
 
   -- there were four, and no bracket
-  pub too_many : 4 ≤ m → {a : Kind} → BegunAt (Start.collection a (onward s t)) k s t n d before No w
+  pub too_many : 4 ≤ m → {a : Kind} → BegunAt (Start.collection a (onward s t)) k s t n d before None w
   too_many l = none_begun (kept_refl w) (g.on_none (go g.left (let e = g.size in omega arith)))
     where
       go : (i : ℕ) → i ≡ 0 → Members i (onward s u) none
@@ -184,17 +181,17 @@ module _ {k : ℕ} {s : Bytes} {t : Token} {n d : ℕ} {before at : List ℕ} {m
         go zero e = absurd (omega arith)
         go (suc i) e = h i
 
-    module _ {r : Found} {v : List ℕ} (x : FoundAt whole k s u nodes d w r v) where
-      pub member_fails : r ≡ No → {a : Kind} → BegunAt (Start.collection a (onward s t)) k s t n d before No v
+    module _ {r : Optional (Token × ℕ)} {v : List ℕ} (x : FoundAt whole k s u nodes d w r v) where
+      pub member_fails : r ≡ None → {a : Kind} → BegunAt (Start.collection a (onward s t)) k s t n d before None v
       member_fails e = none_begun (found_kept x) (g.on_none (allowed (λ i. member_none i (onward s u) (no_answer x e))))
 
-      module _ {u' : Token} {all : ℕ} (e : r ≡ Is u' all) {q : After} (c : AfterIs s u' 43 q) where
-        pub members_end : {u'' : Token} → q ≡ after.At u'' → {code : ℕ} {p : Parsed} {v' : List ℕ} → Assembles code (set at m (all - 1)) (m + 1) k p → Emitted all p v v'
-            → (a : Kind) → assemble_code a ≡ code → BegunAt (Start.collection a (onward s t)) k s t n d before (Is u'' (all + 1)) v'
+      module _ {u' : Token} {all : ℕ} (e : r ≡ Some (u', all)) {q : Optional Token} (c : AfterIs s u' 43 q) where
+        pub members_end : {u'' : Token} → q ≡ Some u'' → {code : ℕ} {p : Parsed} {v' : List ℕ} → Assembles code (set at m (all - 1)) (m + 1) k p → Emitted all p v v'
+            → (a : Kind) → assemble_code a ≡ code → BegunAt (Start.collection a (onward s t)) k s t n d before (Some (u'', all + 1)) v'
         unfolding map_some count shapes
         members_end {u''} i {code} {p} {v'} built put a z = go (rw i at c) (one_found x e)
           where
-            go : AfterIs s u' 43 (after.At u'') → FoundOne whole k s u nodes d w u' all v → BegunAt (Start.collection a (onward s t)) k s t n d before (Is u'' (all + 1)) v'
+            go : AfterIs s u' 43 (Some u'') → FoundOne whole k s u nodes d w u' all v → BegunAt (Start.collection a (onward s t)) k s t n d before (Some (u'', all + 1)) v'
             go (after_one b f) y = begun_one {m = all + 1} record {
               tree = assemble a es;
               answers = λ s₀ l o.
@@ -216,19 +213,19 @@ module _ {k : ℕ} {s : Bytes} {t : Token} {n d : ℕ} {before at : List ℕ} {m
                 stands : all < 768 → StandsFor k (Shape.assemble a (roots n es)) p
                 stands l = built.is a (roots n es) (sym z) h.told (h.at-is (omega arith))
 
-        module _ (i : q ≡ after.No) {q' : After} (c' : AfterIs s u' 44 q') where
-          pub members_open : q' ≡ after.No → {a : Kind} → BegunAt (Start.collection a (onward s t)) k s t n d before No v
+        module _ (i : q ≡ None) {q' : Optional Token} (c' : AfterIs s u' 44 q') where
+          pub members_open : q' ≡ None → {a : Kind} → BegunAt (Start.collection a (onward s t)) k s t n d before None v
           members_open j {a} = go (rw i at c) (rw j at c') (one_found x e)
             where
-              go : AfterIs s u' 43 after.No → AfterIs s u' 44 after.No → FoundOne whole k s u nodes d w u' all v → BegunAt (Start.collection a (onward s t)) k s t n d before No v
+              go : AfterIs s u' 43 None → AfterIs s u' 44 None → FoundOne whole k s u nodes d w u' all v → BegunAt (Start.collection a (onward s t)) k s t n d before None v
               go (after_none b) (after_none f) y =
                   none_begun y.wrote.kept (g.on_none (allowed (λ l. member_open l (onward s u) y.tree (onward s u') y.answers b f)))
 
-          pub members_go : {u'' : Token} → q' ≡ after.At u'' → Gathering k s t n d before (set at m (all - 1)) (m + 1) u'' all v
+          pub members_go : {u'' : Token} → q' ≡ Some u'' → Gathering k s t n d before (set at m (all - 1)) (m + 1) u'' all v
           unfolding map_some
           members_go {u''} j = go (rw i at c) (rw j at c') (one_found x e) g.left refl
             where
-              go : AfterIs s u' 43 after.No → AfterIs s u' 44 (after.At u'') → FoundOne whole k s u nodes d w u' all v → (l : ℕ) → g.left ≡ l
+              go : AfterIs s u' 43 None → AfterIs s u' 44 (Some u'') → FoundOne whole k s u nodes d w u' all v → (l : ℕ) → g.left ≡ l
                   → Gathering k s t n d before (set at m (all - 1)) (m + 1) u'' all v
               go (after_none b) (after_one f o) y zero z = absurd (let p = g.size in omega arith)
               go (after_none b) (after_one f o) y (suc l) z = record {

@@ -21,39 +21,36 @@ use Rattle.tokens.specs.declared.Token.{Token}
 use Rattle.tokens.specs.Codes.{after_code}
 use Rattle.tokens.specs.Meanings.{onward}
 use Rattle.phrases.specs.Meanings.{AfterIs, after_none, after_one}
-use Rattle.phrases.specs.declared.After.{After}
-use Rattle.phrases.specs.declared.After.TheVariants as after
 use Rattle.importer.specs.Answers.{Answers}
 use Rattle.importer.specs.Descent.{Room, FoundOne, FoundAt, closed_by, ClosedOne, ClosedAt, closed_none, closed_one}
 use Rattle.importer.specs.Steps.{BegunAt, begun_none, begun_one, StepAt, step_none, step_one}
 use Rattle.importer.specs.Puts.{PutNode}
-use Rattle.importer.specs.declared.Found.{Found}
-use Rattle.importer.specs.declared.Found.TheVariants.{No, Is}
 use Rattle.importer.proofs.LetLaws.{lets_then, lets_behind}
 use Rattle.importer.proofs.StepLaws.{argument_none, argument_goes, iteration_none, second_none, iteration_goes}
 use Rattle.importer.proofs.PrimaryLaws.{condition_none, then_none, else_none, condition_one}
 use Rattle.descent.proofs.WroteLaws.{two_more, three_more, wrote_three, step_nodes}
 use Rattle.descent.proofs.FoundLaws.{found_kept, no_answer, one_found}
+use Rattle.std.specs.Prelude.{Option as Optional, Some, None}
 
 -- ---- an operand
 
-module _ {code k : ℕ} {s : Bytes} {t : Token} {n d : ℕ} {w : List ℕ} {r : Found} {v : List ℕ} (x : FoundAt whole k s t n d w r v) where
-  pub operand_none : r ≡ No → ClosedAt code k s t n d w No v
+module _ {code k : ℕ} {s : Bytes} {t : Token} {n d : ℕ} {w : List ℕ} {r : Optional (Token × ℕ)} {v : List ℕ} (x : FoundAt whole k s t n d w r v) where
+  pub operand_none : r ≡ None → ClosedAt code k s t n d w None v
   unfolding closed_by on_some
   operand_none e = closed_none {o = none} (no_answer x e) refl (found_kept x)
 
-  module _ {u : Token} {m : ℕ} (e : r ≡ Is u m) {q : After} (h : AfterIs s u code q) where
-    pub operand_open : q ≡ after.No → ClosedAt code k s t n d w No v
+  module _ {u : Token} {m : ℕ} (e : r ≡ Some (u, m)) {q : Optional Token} (h : AfterIs s u code q) where
+    pub operand_open : q ≡ None → ClosedAt code k s t n d w None v
     unfolding closed_by on_some map_some
     operand_open i = go (rw i at h) (one_found x e)
       where
-        go : AfterIs s u code after.No → FoundOne whole k s t n d w u m v → ClosedAt code k s t n d w No v
+        go : AfterIs s u code None → FoundOne whole k s t n d w u m v → ClosedAt code k s t n d w None v
         go (after_none a) y = closed_none {o = some (y.tree, onward s u)} y.answers (rw a) y.wrote.kept
 
-    pub operand_one : {u' : Token} → q ≡ after.At u' → ClosedAt code k s t n d w (Is u' m) v
+    pub operand_one : {u' : Token} → q ≡ Some u' → ClosedAt code k s t n d w (Some (u', m)) v
     operand_one {u'} i = go (rw i at h) (one_found x e)
       where
-        go : AfterIs s u code (after.At u') → FoundOne whole k s t n d w u m v → ClosedAt code k s t n d w (Is u' m) v
+        go : AfterIs s u code (Some u') → FoundOne whole k s t n d w u m v → ClosedAt code k s t n d w (Some (u', m)) v
         go (after_one a f) y = closed_one record {
           tree = y.tree;
           rest = onward s u;
@@ -80,24 +77,24 @@ still_open code (some x) e = go (after_code code x.1) e
     go none q = refl
     go (some r) q = absurd (none-ne-some _ (sym q))
 
-module _ {code k : ℕ} {s : Bytes} {t : Token} {n d : ℕ} {w : List ℕ} {r : Found} {v : List ℕ} (x : ClosedAt code k s t n d w r v) where
+module _ {code k : ℕ} {s : Bytes} {t : Token} {n d : ℕ} {w : List ℕ} {r : Optional (Token × ℕ)} {v : List ℕ} (x : ClosedAt code k s t n d w r v) where
   pub closed_kept : Kept w v
   closed_kept = go x
     where
-      go : {r : Found} → ClosedAt code k s t n d w r v → Kept w v
+      go : {r : Optional (Token × ℕ)} → ClosedAt code k s t n d w r v → Kept w v
       go (closed_none a b c) = c
       go (closed_one y) = y.wrote.kept
 
-  pub no_operand : r ≡ No → NoOperand code (onward s t)
+  pub no_operand : r ≡ None → NoOperand code (onward s t)
   no_operand e = go (rw e at x)
     where
-      go : ClosedAt code k s t n d w No v → NoOperand code (onward s t)
+      go : ClosedAt code k s t n d w None v → NoOperand code (onward s t)
       go (closed_none {o} a b c) = record { found = o; answers = a; lacks = still_open code o b }
 
-  pub one_operand : {u : Token} {m : ℕ} → r ≡ Is u m → ClosedOne code k s t n d w u m v
+  pub one_operand : {u : Token} {m : ℕ} → r ≡ Some (u, m) → ClosedOne code k s t n d w u m v
   one_operand {u} {m} e = go (rw e at x)
     where
-      go : ClosedAt code k s t n d w (Is u m) v → ClosedOne code k s t n d w u m v
+      go : ClosedAt code k s t n d w (Some (u, m)) v → ClosedOne code k s t n d w u m v
       go (closed_one y) = y
 
 pub room_closed : {code k : ℕ} {s : Bytes} {t u : Token} {n d m : ℕ} {w v : List ℕ} → Room s t n d w → ClosedOne code k s t n d w u m v → Room s u m d v
@@ -112,18 +109,18 @@ more_nodes x = let a = x.counted in let b = some_node x.tree in omega arith
 
 -- ---- the operand of a step
 
-module _ {k : ℕ} {s : Bytes} {t : Token} {n d : ℕ} {w : List ℕ} {r : Found} {v : List ℕ} (x : ClosedAt 41 k s t n d w r v) where
-  pub argument_fails : {g : Two} → r ≡ No → StepAt (Next.argument g (onward s t)) k s t n d w No v
+module _ {k : ℕ} {s : Bytes} {t : Token} {n d : ℕ} {w : List ℕ} {r : Optional (Token × ℕ)} {v : List ℕ} (x : ClosedAt 41 k s t n d w r v) where
+  pub argument_fails : {g : Two} → r ≡ None → StepAt (Next.argument g (onward s t)) k s t n d w None v
   argument_fails {g} e = go (no_operand x e)
     where
-      go : NoOperand 41 (onward s t) → StepAt (Next.argument g (onward s t)) k s t n d w No v
+      go : NoOperand 41 (onward s t) → StepAt (Next.argument g (onward s t)) k s t n d w None v
       go y = step_none (λ a s₀ q. argument_none a s₀ g (onward s t) q y.found y.answers y.lacks) (closed_kept x)
 
-  pub argument_found : {g : Two} {u : Token} {m : ℕ} {v' : List ℕ} → r ≡ Is u m → PutNode k m (two_shape g (n - 1) (m - 1)) v v' → StepAt (Next.argument g (onward s t)) k s t n d w (Is u (m + 1)) v'
+  pub argument_found : {g : Two} {u : Token} {m : ℕ} {v' : List ℕ} → r ≡ Some (u, m) → PutNode k m (two_shape g (n - 1) (m - 1)) v v' → StepAt (Next.argument g (onward s t)) k s t n d w (Some (u, m + 1)) v'
   unfolding count shapes
   argument_found {g} {u} {m} {v'} e put = go (one_operand x e)
     where
-      go : ClosedOne 41 k s t n d w u m v → StepAt (Next.argument g (onward s t)) k s t n d w (Is u (m + 1)) v'
+      go : ClosedOne 41 k s t n d w u m v → StepAt (Next.argument g (onward s t)) k s t n d w (Some (u, m + 1)) v'
       go y = step_one {m = m + 1} record {
         grows = λ a. two g a y.tree;
         more = suc (count y.tree);
@@ -138,28 +135,28 @@ module _ {k : ℕ} {s : Bytes} {t : Token} {n d : ℕ} {w : List ℕ} {r : Found
         kept = kept_then y.wrote.kept put.kept.kept;
       }
 
-module _ {k : ℕ} {s : Bytes} {t : Token} {n d : ℕ} {w : List ℕ} {r : Found} {v : List ℕ} {i j : ℕ} {of : Ty} (x : ClosedAt 47 k s t n d w r v) where
-  pub iteration_fails : r ≡ No → StepAt (Next.iteration (iterate i j of) (onward s t)) k s t n d w No v
+module _ {k : ℕ} {s : Bytes} {t : Token} {n d : ℕ} {w : List ℕ} {r : Optional (Token × ℕ)} {v : List ℕ} {i j : ℕ} {of : Ty} (x : ClosedAt 47 k s t n d w r v) where
+  pub iteration_fails : r ≡ None → StepAt (Next.iteration (iterate i j of) (onward s t)) k s t n d w None v
   iteration_fails e = go (no_operand x e)
     where
-      go : NoOperand 47 (onward s t) → StepAt (Next.iteration (iterate i j of) (onward s t)) k s t n d w No v
+      go : NoOperand 47 (onward s t) → StepAt (Next.iteration (iterate i j of) (onward s t)) k s t n d w None v
       go y = step_none (λ a s₀ q. iteration_none a s₀ (iterate i j of) (onward s t) q y.found y.answers y.lacks) (closed_kept x)
 
-  module _ {u : Token} {m : ℕ} (e : r ≡ Is u m) {r' : Found} {v' : List ℕ} (x' : ClosedAt 41 k s u m d v r' v') where
-    pub second_fails : r' ≡ No → StepAt (Next.iteration (iterate i j of) (onward s t)) k s t n d w No v'
+  module _ {u : Token} {m : ℕ} (e : r ≡ Some (u, m)) {r' : Optional (Token × ℕ)} {v' : List ℕ} (x' : ClosedAt 41 k s u m d v r' v') where
+    pub second_fails : r' ≡ None → StepAt (Next.iteration (iterate i j of) (onward s t)) k s t n d w None v'
     second_fails e' = go (one_operand x e) (no_operand x' e')
       where
-        go : ClosedOne 47 k s t n d w u m v → NoOperand 41 (onward s u) → StepAt (Next.iteration (iterate i j of) (onward s t)) k s t n d w No v'
+        go : ClosedOne 47 k s t n d w u m v → NoOperand 41 (onward s u) → StepAt (Next.iteration (iterate i j of) (onward s t)) k s t n d w None v'
         go y z =
             step_none (λ a s₀ q. second_none a s₀ (iterate i j of) (onward s t) q y.tree y.rest (onward s u) y.answers y.closes z.found z.answers z.lacks)
             (kept_then y.wrote.kept (closed_kept x'))
 
-    pub iteration_found : {u' : Token} {l : ℕ} {v'' : List ℕ} → r' ≡ Is u' l → PutNode k l (three_shape (iterate i j of) (n - 1) (m - 1) (l - 1)) v' v''
-        → StepAt (Next.iteration (iterate i j of) (onward s t)) k s t n d w (Is u' (l + 1)) v''
+    pub iteration_found : {u' : Token} {l : ℕ} {v'' : List ℕ} → r' ≡ Some (u', l) → PutNode k l (three_shape (iterate i j of) (n - 1) (m - 1) (l - 1)) v' v''
+        → StepAt (Next.iteration (iterate i j of) (onward s t)) k s t n d w (Some (u', l + 1)) v''
     unfolding count shapes
     iteration_found {u'} {l} {v''} e' put = go (one_operand x e) (one_operand x' e')
       where
-        go : ClosedOne 47 k s t n d w u m v → ClosedOne 41 k s u m d v u' l v' → StepAt (Next.iteration (iterate i j of) (onward s t)) k s t n d w (Is u' (l + 1)) v''
+        go : ClosedOne 47 k s t n d w u m v → ClosedOne 41 k s u m d v u' l v' → StepAt (Next.iteration (iterate i j of) (onward s t)) k s t n d w (Some (u', l + 1)) v''
         go y z = step_one {m = l + 1} record {
           grows = λ a. three (iterate i j of) a y.tree z.tree;
           more = suc (count y.tree + count z.tree);
@@ -180,38 +177,38 @@ module _ {k : ℕ} {s : Bytes} {t : Token} {n d : ℕ} {w : List ℕ} {r : Found
 
 -- ---- conditions
 
-module _ {k : ℕ} {s : Bytes} {t : Token} {n d : ℕ} {w : List ℕ} {r : Found} {v : List ℕ} (x : ClosedAt 51 k s t n d w r v) where
-  pub test_fails : r ≡ No → BegunAt (Start.condition (onward s t)) k s t n d w No v
+module _ {k : ℕ} {s : Bytes} {t : Token} {n d : ℕ} {w : List ℕ} {r : Optional (Token × ℕ)} {v : List ℕ} (x : ClosedAt 51 k s t n d w r v) where
+  pub test_fails : r ≡ None → BegunAt (Start.condition (onward s t)) k s t n d w None v
   test_fails e = go (no_operand x e)
     where
-      go : NoOperand 51 (onward s t) → BegunAt (Start.condition (onward s t)) k s t n d w No v
+      go : NoOperand 51 (onward s t) → BegunAt (Start.condition (onward s t)) k s t n d w None v
       go y = begun_none (λ s₀ l q. condition_none s₀ (onward s t) l q y.found y.answers y.lacks) (closed_kept x)
 
-  module _ {u : Token} {m : ℕ} (e : r ≡ Is u m) {r' : Found} {v' : List ℕ} (x' : ClosedAt 52 k s u m d v r' v') where
-    pub then_fails : r' ≡ No → BegunAt (Start.condition (onward s t)) k s t n d w No v'
+  module _ {u : Token} {m : ℕ} (e : r ≡ Some (u, m)) {r' : Optional (Token × ℕ)} {v' : List ℕ} (x' : ClosedAt 52 k s u m d v r' v') where
+    pub then_fails : r' ≡ None → BegunAt (Start.condition (onward s t)) k s t n d w None v'
     then_fails e' = go (one_operand x e) (no_operand x' e')
       where
-        go : ClosedOne 51 k s t n d w u m v → NoOperand 52 (onward s u) → BegunAt (Start.condition (onward s t)) k s t n d w No v'
+        go : ClosedOne 51 k s t n d w u m v → NoOperand 52 (onward s u) → BegunAt (Start.condition (onward s t)) k s t n d w None v'
         go y z =
             begun_none (λ s₀ l q. then_none s₀ (onward s t) l q y.tree y.rest (onward s u) y.answers y.closes z.found z.answers z.lacks)
             (kept_then y.wrote.kept (closed_kept x'))
 
-    module _ {u' : Token} {m' : ℕ} (e' : r' ≡ Is u' m') {r'' : Found} {v'' : List ℕ} (x'' : ClosedAt 53 k s u' m' d v' r'' v'') where
-      pub else_fails : r'' ≡ No → BegunAt (Start.condition (onward s t)) k s t n d w No v''
+    module _ {u' : Token} {m' : ℕ} (e' : r' ≡ Some (u', m')) {r'' : Optional (Token × ℕ)} {v'' : List ℕ} (x'' : ClosedAt 53 k s u' m' d v' r'' v'') where
+      pub else_fails : r'' ≡ None → BegunAt (Start.condition (onward s t)) k s t n d w None v''
       else_fails e'' = go (one_operand x e) (one_operand x' e') (no_operand x'' e'')
         where
-          go : ClosedOne 51 k s t n d w u m v → ClosedOne 52 k s u m d v u' m' v' → NoOperand 53 (onward s u') → BegunAt (Start.condition (onward s t)) k s t n d w No v''
+          go : ClosedOne 51 k s t n d w u m v → ClosedOne 52 k s u m d v u' m' v' → NoOperand 53 (onward s u') → BegunAt (Start.condition (onward s t)) k s t n d w None v''
           go y y' z =
               begun_none (λ s₀ l q.
               else_none s₀ (onward s t) l q y.tree y.rest (onward s u) y.answers y.closes y'.tree y'.rest (onward s u') y'.answers y'.closes z.found z.answers z.lacks)
               (kept_then (kept_then y.wrote.kept y'.wrote.kept) (closed_kept x''))
 
-      pub condition_found : {u'' : Token} {l : ℕ} {z : List ℕ} → r'' ≡ Is u'' l → PutNode k l (three_shape conditional (m - 1) (m' - 1) (l - 1)) v'' z
-          → BegunAt (Start.condition (onward s t)) k s t n d w (Is u'' (l + 1)) z
+      pub condition_found : {u'' : Token} {l : ℕ} {z : List ℕ} → r'' ≡ Some (u'', l) → PutNode k l (three_shape conditional (m - 1) (m' - 1) (l - 1)) v'' z
+          → BegunAt (Start.condition (onward s t)) k s t n d w (Some (u'', l + 1)) z
       unfolding count
       condition_found {u''} {l} {z} e'' put = go (one_operand x e) (one_operand x' e') (one_operand x'' e'')
         where
-          go : ClosedOne 51 k s t n d w u m v → ClosedOne 52 k s u m d v u' m' v' → ClosedOne 53 k s u' m' d v' u'' l v'' → BegunAt (Start.condition (onward s t)) k s t n d w (Is u'' (l + 1)) z
+          go : ClosedOne 51 k s t n d w u m v → ClosedOne 52 k s u m d v u' m' v' → ClosedOne 53 k s u' m' d v' u'' l v'' → BegunAt (Start.condition (onward s t)) k s t n d w (Some (u'', l + 1)) z
           go a b c = begun_one {m = l + 1} record {
             tree = three conditional a.tree b.tree c.tree;
             answers = λ s₀ h q.

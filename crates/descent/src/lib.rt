@@ -10,35 +10,31 @@ ghost use Rattle.importer.specs.Descent.{Room, FoundAt};
 ghost use Rattle.importer.specs.Imports.{Imports};
 
 use importer::leaves::{negate, nots};
-use importer::lets::{Head, close_lets, end_value, let_head};
+use importer::lets::{close_lets, end_value, let_head};
 use importer::puts::joined;
-use importer::{Found, Imported};
+use memory::codes::LET_IN;
 use phrases::words::{after, sign};
-use phrases::{After, Sign};
 use terms::postfix;
 use tokens::{Token, next_token, signs};
 
 pub mod terms; // primaries and steps
 
 // Reads a whole text.
-pub fn import(s: &[u8], w2: &mut [u64], k: u64) -> Imported
+pub fn import(s: &[u8], w2: &mut [u64], k: u64) -> Option<usize>
     requires { least_words ≤ length w2.old }
     ensures { Imports k s.now w2.old result w2.new }
 {
     let t = next_token(s, 0);
-    let found = whole(s, t, w2, 0, 0, k);
-    let Found::Is { next, nodes } = found else {
-        return Imported::No;
-    };
+    let (next, nodes) = whole(s, t, w2, 0, 0, k)?;
     if next.code != signs::END {
-        return Imported::No;
+        return None;
     }
-    Imported::Is { nodes }
+    Some(nodes)
 }
 
 // A whole expression: `let`s, as they come, and what stands in them. `unread` is the number of those whose `in` is still to come.
 #[cycle(comparison_conjunction_disjunction_prefix_product_sum_argument_braces_condition_iteration_operand_postfix_primary_whole)]
-fn whole(s: &[u8], t: Token, w2: &mut [u64], n: usize, d: usize, k: u64) -> Found
+fn whole(s: &[u8], t: Token, w2: &mut [u64], n: usize, d: usize, k: u64) -> Option<(Token, usize)>
     requires { Room s.now t n d w2.old }
     ensures { FoundAt wholeLevel k s.now t n d w2.old result w2.new }
 {
@@ -47,32 +43,25 @@ fn whole(s: &[u8], t: Token, w2: &mut [u64], n: usize, d: usize, k: u64) -> Foun
     let mut lets = d;
     let mut unread: usize = 0;
     loop {
-        match let_head(s, u, w2, lets) {
-            Head::Broken => {
-                return Found::No;
-            }
-            Head::Is(next) => {
+        let begun = after(s, u, LET_IN);
+        match begun {
+            Some(head) => {
+                u = let_head(s, head, w2, lets)?;
                 lets += 1;
                 unread += 1;
-                u = next;
             }
-            Head::No => {
-                let Found::Is { next, nodes: all } = disjunction(s, u, w2, nodes, lets, k) else {
-                    return Found::No;
-                };
+            None => {
+                let (next, all) = disjunction(s, u, w2, nodes, lets, k)?;
                 let closed = close_lets(w2, all, lets, d, k);
                 nodes = closed.nodes;
                 lets = closed.lets;
                 if unread == 0 {
                     let m = nodes + (lets - d);
-                    return Found::Is { next, nodes: m };
+                    return Some((next, m));
                 }
-                let After::At(v) = after(s, next, signs::IN_WORD) else {
-                    return Found::No;
-                };
+                u = after(s, next, signs::IN_WORD)?;
                 end_value(w2, lets, nodes);
                 unread -= 1;
-                u = v;
             }
         }
     }
@@ -80,53 +69,68 @@ fn whole(s: &[u8], t: Token, w2: &mut [u64], n: usize, d: usize, k: u64) -> Foun
 
 // Conjunctions with `or` between them. A level that leans left has a loop: what was found so far is the left side.
 #[cycle(comparison_conjunction_disjunction_prefix_product_sum_argument_braces_condition_iteration_operand_postfix_primary_whole)]
-fn disjunction(s: &[u8], t: Token, w2: &mut [u64], n: usize, d: usize, k: u64) -> Found
+fn disjunction(
+    s: &[u8],
+    t: Token,
+    w2: &mut [u64],
+    n: usize,
+    d: usize,
+    k: u64,
+) -> Option<(Token, usize)>
     requires { Room s.now t n d w2.old }
     ensures { FoundAt disjunctionLevel k s.now t n d w2.old result w2.new }
 {
     let mut found = conjunction(s, t, w2, n, d, k);
-    loop {
-        let Found::Is { next: u, nodes: m } = found else {
-            return Found::No;
-        };
-        let Sign::Is { code, next } = sign(s, u, 0) else {
-            return Found::Is { next: u, nodes: m };
+    while let Some((u, m)) = found {
+        let Some((code, next)) = sign(s, u, 0) else {
+            return Some((u, m));
         };
         let right = conjunction(s, next, w2, m, d, k);
         found = joined(w2, code, m, right, k);
     }
+    None
 }
 
 // Comparisons with `and` between them.
 #[cycle(comparison_conjunction_disjunction_prefix_product_sum_argument_braces_condition_iteration_operand_postfix_primary_whole)]
-fn conjunction(s: &[u8], t: Token, w2: &mut [u64], n: usize, d: usize, k: u64) -> Found
+fn conjunction(
+    s: &[u8],
+    t: Token,
+    w2: &mut [u64],
+    n: usize,
+    d: usize,
+    k: u64,
+) -> Option<(Token, usize)>
     requires { Room s.now t n d w2.old }
     ensures { FoundAt conjunctionLevel k s.now t n d w2.old result w2.new }
 {
     let mut found = comparison(s, t, w2, n, d, k);
-    loop {
-        let Found::Is { next: u, nodes: m } = found else {
-            return Found::No;
-        };
-        let Sign::Is { code, next } = sign(s, u, 1) else {
-            return Found::Is { next: u, nodes: m };
+    while let Some((u, m)) = found {
+        let Some((code, next)) = sign(s, u, 1) else {
+            return Some((u, m));
         };
         let right = comparison(s, next, w2, m, d, k);
         found = joined(w2, code, m, right, k);
     }
+    None
 }
 
 // A sum, or two with `=` or `<` between them.
 #[cycle(comparison_conjunction_disjunction_prefix_product_sum_argument_braces_condition_iteration_operand_postfix_primary_whole)]
-fn comparison(s: &[u8], t: Token, w2: &mut [u64], n: usize, d: usize, k: u64) -> Found
+fn comparison(
+    s: &[u8],
+    t: Token,
+    w2: &mut [u64],
+    n: usize,
+    d: usize,
+    k: u64,
+) -> Option<(Token, usize)>
     requires { Room s.now t n d w2.old }
     ensures { FoundAt comparisonLevel k s.now t n d w2.old result w2.new }
 {
-    let Found::Is { next: u, nodes: m } = sum(s, t, w2, n, d, k) else {
-        return Found::No;
-    };
-    let Sign::Is { code, next } = sign(s, u, 2) else {
-        return Found::Is { next: u, nodes: m };
+    let (u, m) = sum(s, t, w2, n, d, k)?;
+    let Some((code, next)) = sign(s, u, 2) else {
+        return Some((u, m));
     };
     let right = sum(s, next, w2, m, d, k);
     joined(w2, code, m, right, k)
@@ -134,56 +138,46 @@ fn comparison(s: &[u8], t: Token, w2: &mut [u64], n: usize, d: usize, k: u64) ->
 
 // Products with `+` or `-` between them.
 #[cycle(comparison_conjunction_disjunction_prefix_product_sum_argument_braces_condition_iteration_operand_postfix_primary_whole)]
-fn sum(s: &[u8], t: Token, w2: &mut [u64], n: usize, d: usize, k: u64) -> Found
+fn sum(s: &[u8], t: Token, w2: &mut [u64], n: usize, d: usize, k: u64) -> Option<(Token, usize)>
     requires { Room s.now t n d w2.old }
     ensures { FoundAt sumLevel k s.now t n d w2.old result w2.new }
 {
     let mut found = product(s, t, w2, n, d, k);
-    loop {
-        let Found::Is { next: u, nodes: m } = found else {
-            return Found::No;
-        };
-        let Sign::Is { code, next } = sign(s, u, 3) else {
-            return Found::Is { next: u, nodes: m };
+    while let Some((u, m)) = found {
+        let Some((code, next)) = sign(s, u, 3) else {
+            return Some((u, m));
         };
         let right = product(s, next, w2, m, d, k);
         found = joined(w2, code, m, right, k);
     }
+    None
 }
 
 // Operands with `*`, `/`, `div` or `mod` between them.
 #[cycle(comparison_conjunction_disjunction_prefix_product_sum_argument_braces_condition_iteration_operand_postfix_primary_whole)]
-fn product(s: &[u8], t: Token, w2: &mut [u64], n: usize, d: usize, k: u64) -> Found
+fn product(s: &[u8], t: Token, w2: &mut [u64], n: usize, d: usize, k: u64) -> Option<(Token, usize)>
     requires { Room s.now t n d w2.old }
     ensures { FoundAt productLevel k s.now t n d w2.old result w2.new }
 {
     let mut found = prefix(s, t, w2, n, d, k);
-    loop {
-        let Found::Is { next: u, nodes: m } = found else {
-            return Found::No;
-        };
-        let Sign::Is { code, next } = sign(s, u, 4) else {
-            return Found::Is { next: u, nodes: m };
+    while let Some((u, m)) = found {
+        let Some((code, next)) = sign(s, u, 4) else {
+            return Some((u, m));
         };
         let right = prefix(s, next, w2, m, d, k);
         found = joined(w2, code, m, right, k);
     }
+    None
 }
 
 // `not`s, and the postfix expression that they stand before.
 #[cycle(comparison_conjunction_disjunction_prefix_product_sum_argument_braces_condition_iteration_operand_postfix_primary_whole)]
-fn prefix(s: &[u8], t: Token, w2: &mut [u64], n: usize, d: usize, k: u64) -> Found
+fn prefix(s: &[u8], t: Token, w2: &mut [u64], n: usize, d: usize, k: u64) -> Option<(Token, usize)>
     requires { Room s.now t n d w2.old }
     ensures { FoundAt prefixLevel k s.now t n d w2.old result w2.new }
 {
     let run = nots(s, t);
-    let operand = postfix(s, run.next, w2, n, d, k);
-    let Found::Is { next, nodes } = operand else {
-        return Found::No;
-    };
+    let (next, nodes) = postfix(s, run.next, w2, n, d, k)?;
     negate(w2, nodes, run.count, k);
-    Found::Is {
-        next,
-        nodes: nodes + run.count,
-    }
+    Some((next, nodes + run.count))
 }

@@ -21,34 +21,29 @@ use Rattle.tables.specs.declared.Counts.{Counts}
 use Rattle.tables.proofs.Tables.{kept_refl}
 use Rattle.rules.specs.Accepted.{Accepted}
 use Rattle.board_words.specs.Layout.{board_words, BoardLies, StoresBoard}
-use Rattle.replay.specs.declared.Replayed.{Replayed}
-use Rattle.replay.specs.declared.Replayed.TheVariants as replay
 use Rattle.replay.specs.Replays.{ReplayedAs, refused as not_made, replayed, Replays}
 use Rattle.renewal.specs.Fresh.{KnownAccepted}
-use Rattle.renewal.specs.declared.Renewal.{Renewal}
-use Rattle.renewal.specs.declared.Renewal.TheVariants as renewing
 use Rattle.renewal.specs.Renewed.{renewal, SaysRenewal, GivesRenewal, Renews}
 use Rattle.renewal.specs.Renewed.{written as renewal-written, too_long as renewal-short}
 use Rattle.renewal.proofs.RenewalLaws.{renewed_length}
-use Rattle.editing.specs.declared.Edited.{Edited}
-use Rattle.editing.specs.declared.Edited.TheVariants as code
 use Rattle.editing.specs.Edited.{SaysEdit, written, refused, VerdictsLie, GivesEdit, RenewsBoard, EditsBoard}
 use Rattle.editing.proofs.EndLaws.{ends_taken, verdicts_stand}
+use Rattle.std.specs.Prelude.{Result, Ok, Err}
+use Rattle.memory.specs.Refusals.{number, at}
+use Rattle.memory.specs.declared.refusals.Refusal.{Refusal}
+use Rattle.memory.specs.declared.refusals.Refusal.TheVariants.{SlipTooLong}
+use Rattle.memory.specs.declared.refusals.Refused.{Refused}
 
 -- ---- verdicts renewed, and the board stored
 
-says_written : {n k : ℕ} {v : Verdict} → SaysRenewal (renewing.Written n k) v → SaysEdit (code.Written n k) v
+says_written : {n k : ℕ} {v : Verdict} → SaysRenewal (Ok (n, k)) v → SaysEdit (Ok (n, k)) v
 says_written (renewal-written b e) = written b e
 
-number_written : {n k : ℕ} {v : Verdict} → SaysRenewal (renewing.Written n k) v → v.number ≡ 0
+number_written : {n k : ℕ} {v : Verdict} → SaysRenewal (Ok (n, k)) v → v.number ≡ 0
 number_written (renewal-written b e) = refl
 
-says_short : {v : Verdict} → SaysRenewal renewing.Short v → v ≡ refusal 18
-says_short renewal-short = refl
-
-says_none : {r : Renewal} {v : Verdict} → SaysRenewal r v → r ≡ renewing.Foreign → ⊥
-says_none (renewal-written b e) q = let z : ◌≡◌ {A = ℕ} 0 1 = cc in omega arith
-says_none renewal-short q = let z : ◌≡◌ {A = ℕ} 0 1 = cc in omega arith
+says_refused : {x : Refused} {v : Verdict} → SaysRenewal (Err x) v → (x ≡ at SlipTooLong 0) × (v ≡ refusal 18)
+says_refused renewal-short = (refl, refl)
 
 -- a refusal leaves the board
 refused_board : (n k : ℕ) (laid words : List ℕ) → n ≢ 0 → words ≡ board_after (refusal_at n k) laid words
@@ -59,7 +54,7 @@ stored_board : (v : Verdict) (laid words : List ℕ) {after : List ℕ} → v.nu
 unfolding board_after
 stored_board v laid words e q = q ∙ rw (eq-eqb v.number 0 e)
 
-module _ {st : Counts} {w0 w1 u2 v2 : List ℕ} {a : ℕ} (words : List ℕ) {out now : Bytes} {was placed : List ℕ} {r : Renewal}
+module _ {st : Counts} {w0 w1 u2 v2 : List ℕ} {a : ℕ} (words : List ℕ) {out now : Bytes} {was placed : List ℕ} {r : Result (ℕ × ℕ) Refused}
     (k : KnownAccepted st w0 w1) (d : Renews st w0 w1 u2 v2 a (take 64 (drop memory.board_ends words)) out now was placed r) where
   few : st.rules ≤ 64
   few = k.accepted.lies.fine.rules
@@ -67,9 +62,9 @@ module _ {st : Counts} {w0 w1 u2 v2 : List ℕ} {a : ℕ} (words : List ℕ) {ou
   given : {s : Sheet} {ts : List Ty} → Accepted st w0 w1 s ts → (ls : List Bytes) → VerdictsLie st.rules words out ls → GivesRenewal out now placed st.rules s a ls r
   given {s} {ts} g ls lie = d.for s ts g ls lie.count (verdicts_stand lie few)
 
-  pub board_renewed : {n steps : ℕ} {after : List ℕ} → r ≡ renewing.Written n steps → 64 ≤ length placed
+  pub board_renewed : {n steps : ℕ} {after : List ℕ} → r ≡ Ok (n, steps) → 64 ≤ length placed
       → ((x1 : List ℕ) → StoresBoard st w0 x1 placed words after) → length after ≡ length words
-      → RenewsBoard st w0 w1 u2 v2 a words after out now (code.Written n steps)
+      → RenewsBoard st w0 w1 u2 v2 a words after out now (Ok (n, steps))
   board_renewed {n} {steps} {after} e room stores size = record {
     for = gives;
     words_size = size;
@@ -78,10 +73,10 @@ module _ {st : Counts} {w0 w1 u2 v2 : List ℕ} {a : ℕ} (words : List ℕ) {ou
   }
     where
       gives : (s : Sheet) (ts : List Ty) → Accepted st w0 w1 s ts → (ls : List Bytes) → VerdictsLie st.rules words out ls
-          → GivesEdit (renewal (length out) s a ls) (board_words (record { slots = s.slots; verdicts = renewed s a 0 s.rules ls })) (code.Written n steps) words after out now
+          → GivesEdit (renewal (length out) s a ls) (board_words (record { slots = s.slots; verdicts = renewed s a 0 s.rules ls })) (Ok (n, steps)) words after out now
       gives s ts g ls lie =
           let p = given g ls lie in
-          let says : SaysRenewal (renewing.Written n steps) (renewal (length out) s a ls) = rw e at p.is in
+          let says : SaysRenewal (Ok (n, steps)) (renewal (length out) s a ls) = rw e at p.is in
           let zero = number_written says in
           let rules = g.lies.holds.counted.rules in
           let ends = ends_taken (renewed s a 0 s.rules ls) (renewed_length s a 0 s.rules ls (lie.count ∙ rules) ∙ sym rules) (omega (arith, few)) (p.ended zero) in
@@ -91,21 +86,13 @@ module _ {st : Counts} {w0 w1 u2 v2 : List ℕ} {a : ℕ} (words : List ℕ) {ou
             output = p.output;
           }
 
-  pub board_short : r ≡ renewing.Short → RenewsBoard st w0 w1 u2 v2 a words words out now (code.Refused 18 0)
+  pub board_refused : {x : Refused} → r ≡ Err x → RenewsBoard st w0 w1 u2 v2 a words words out now (Err x)
   unfolding refusal
-  board_short e = record {
+  board_refused e = record {
     for = λ s ts g ls lie.
         let p = given g ls lie in
-        let q = says_short (rw e at p.is) in
-        record { is = rw q refused; board = rw q (refused_board 18 0 _ words (λ z. omega arith)); output = p.output };
-    words_size = refl;
-    out_size = d.size;
-    kept = d.kept;
-  }
-
-  pub board_foreign : r ≡ renewing.Foreign → RenewsBoard st w0 w1 u2 v2 a words words out now (code.Refused 21 1)
-  board_foreign e = record {
-    for = λ s ts g ls lie. absurd (says_none (given g ls lie).is e);
+        let q = says_refused (rw e at p.is) in
+        record { is = rw (q.0, q.1) refused; board = rw q.1 (refused_board 18 0 _ words (λ z. omega arith)); output = p.output };
     words_size = refl;
     out_size = d.size;
     kept = d.kept;
@@ -148,7 +135,7 @@ made_board : (s : Sheet) (b : Board) (i : Edit)
 unfolding after valued with_slots
 made_board s b i = refl
 
-edit_is : (line : Bytes) {words : List ℕ} {st su : Counts} {w0 v0 w1 u2 v2 after : List ℕ} {out now : Bytes} {x : Edited} (i : Edit) → RenewsBoard su v0 w1 u2 v2 i.row words after out now x
+edit_is : (line : Bytes) {words : List ℕ} {st su : Counts} {w0 v0 w1 u2 v2 after : List ℕ} {out now : Bytes} {x : Result (ℕ × ℕ) Refused} (i : Edit) → RenewsBoard su v0 w1 u2 v2 i.row words after out now x
     → (s : Sheet) (ts : List Ty) → Accepted st w0 w1 s ts → (b : Board) → VerdictsLie st.rules words out b.verdicts → (xs : List Slot) → read_edit line ≡ some i
     → Accepted su v0 w1 (valued s xs) ts → xs ≡ edited b.slots i → edit_on (length out) s b (read_edit line) ≡ answered (length out) s b i
     → GivesEdit (edit_on (length out) s b (read_edit line)) (board_words (after_line s b (read_edit line))) x words after out now
@@ -157,33 +144,40 @@ edit_is line {out = out} i p s ts g b lie xs q acc same answers =
     rw (answers ∙ made_is s b i (length out), q, made_board s b i)
     (p.for (valued s (edited b.slots i)) ts (rw same at acc) b.verdicts (rw (same_rules xs g acc) lie))
 
-module _ {line : Bytes} {words : List ℕ} {st : Counts} {w0 v0 w1 : List ℕ} {r : Replayed} (d : Replays line words st w0 w1 v0 r) where
-  pub edit_refused : {n : ℕ} → r ≡ replay.Refused n → (w2 : List ℕ) (out : Bytes) → EditsBoard line st w0 v0 w1 w2 w2 words words out out (code.Refused n 1)
+parts_of : Counts × ℕ → Result (Counts × ℕ) Refusal → Counts × ℕ
+parts_of p (Ok q) = q
+parts_of p (Err e) = p
+
+same_parts : {st su : Counts} {a b : ℕ} → ◌≡◌ {A = Result (Counts × ℕ) Refusal} (Ok (st, a)) (Ok (su, b)) → (st ≡ su) × (a ≡ b)
+unfolding parts_of
+same_parts {st} {su} {a} {b} e = let q : ◌≡◌ {A = Counts × ℕ} (st, a) (su, b) = ap (parts_of (st, a)) e in (ap (λ p. p.0) q, ap (λ p. p.1) q)
+
+module _ {line : Bytes} {words : List ℕ} {st : Counts} {w0 v0 w1 : List ℕ} {r : Result (Counts × ℕ) Refusal} (d : Replays line words st w0 w1 v0 r) where
+  pub edit_refused : {n : Refusal} → r ≡ Err n → (w2 : List ℕ) (out : Bytes) → EditsBoard line st w0 v0 w1 w2 w2 words words out out (Err (at n 1))
   edit_refused {n} e w2 out = record { for = gives; words_size = refl; out_size = refl; kept0 = d.kept; kept2 = kept_refl w2 }
     where
       gives : (s : Sheet) (ts : List Ty) → Accepted st w0 w1 s ts → (b : Board) → BoardLies words s b → VerdictsLie st.rules words out b.verdicts
-          → GivesEdit (edit_on (length out) s b (read_edit line)) (board_words (after_line s b (read_edit line))) (code.Refused n 1) words words out out
+          → GivesEdit (edit_on (length out) s b (read_edit line)) (board_words (after_line s b (read_edit line))) (Err (at n 1)) words words out out
       gives s ts g b lies lie = by (d.is s ts g) e
         where
-          by : {y : Replayed} → ReplayedAs (read_edit line) words s ts v0 w1 y → y ≡ replay.Refused n
-              → GivesEdit (edit_on (length out) s b (read_edit line)) (board_words (after_line s b (read_edit line))) (code.Refused n 1) words words out out
+          by : {y : Result (Counts × ℕ) Refusal} → ReplayedAs (read_edit line) words s ts v0 w1 y → y ≡ Err n
+              → GivesEdit (edit_on (length out) s b (read_edit line)) (board_words (after_line s b (read_edit line))) (Err (at n 1)) words words out out
           by (replayed i xs q low acc h) z = absurd (let w : ◌≡◌ {A = ℕ} 0 1 = cc in omega arith)
-          by (not_made {n = m} h) z =
+          by (not_made {e = m} h) z =
               let w : m ≡ n = cc in
-              let q : edit_on (length out) s b (read_edit line) ≡ refusal_at n 1 = rw w at (h b lies (length out)) in
+              let q : edit_on (length out) s b (read_edit line) ≡ refusal_at (number n) 1 = rw w at (h b lies (length out)) in
               record {
                 is = rw q refused;
-                board = rw q (refused_board n 1 _ words (not-zero (ends_on (length out) s b (read_edit line)) q));
-                output = rw q (kept_output n 1 out);
+                board = rw q (refused_board (number n) 1 _ words (not-zero (ends_on (length out) s b (read_edit line)) q));
+                output = rw q (kept_output (number n) 1 out);
               }
 
-  module _ {su : Counts} {row : ℕ} (e : r ≡ replay.Is su row) where
-    made_known : {y : Replayed} {s : Sheet} {ts : List Ty} → ReplayedAs (read_edit line) words s ts v0 w1 y → y ≡ replay.Is su row → KnownAccepted su v0 w1 × (row < 64)
+  module _ {su : Counts} {row : ℕ} (e : r ≡ Ok (su, row)) where
+    made_known : {y : Result (Counts × ℕ) Refusal} {s : Sheet} {ts : List Ty} → ReplayedAs (read_edit line) words s ts v0 w1 y → y ≡ Ok (su, row) → KnownAccepted su v0 w1 × (row < 64)
     made_known (not_made h) z = absurd (let w : ◌≡◌ {A = ℕ} 0 1 = cc in omega arith)
-    made_known {s = s} {ts} (replayed {st = sv} i xs p low g h) z =
-        let q : sv ≡ su = cc in
-        let w : i.row ≡ row = cc in
-        (record { sheet = valued s xs; types = ts; accepted = rw q at g }, rw w at low)
+    made_known {s = s} {ts} (replayed i xs p low g h) z =
+        let q = same_parts z in
+        (record { sheet = valued s xs; types = ts; accepted = rw q.0 at g }, rw q.1 at low)
 
     pub edit_known : KnownAccepted st w0 w1 → KnownAccepted su v0 w1
     edit_known k = (made_known (d.is k.sheet k.types k.accepted) e).0
@@ -191,7 +185,7 @@ module _ {line : Bytes} {words : List ℕ} {st : Counts} {w0 v0 w1 : List ℕ} {
     pub edit_row : KnownAccepted st w0 w1 → row < 64
     edit_row k = (made_known (d.is k.sheet k.types k.accepted) e).1
 
-    pub edit_made : {u2 v2 after : List ℕ} {out now : Bytes} {x : Edited} → RenewsBoard su v0 w1 u2 v2 row words after out now x
+    pub edit_made : {u2 v2 after : List ℕ} {out now : Bytes} {x : Result (ℕ × ℕ) Refused} → RenewsBoard su v0 w1 u2 v2 row words after out now x
         → EditsBoard line st w0 v0 w1 u2 v2 words after out now x
     edit_made {u2} {v2} {after} {out} {now} {x} p = record { for = gives; words_size = p.words_size; out_size = p.out_size; kept0 = d.kept; kept2 = p.kept }
       where
@@ -199,10 +193,9 @@ module _ {line : Bytes} {words : List ℕ} {st : Counts} {w0 v0 w1 : List ℕ} {
             → GivesEdit (edit_on (length out) s b (read_edit line)) (board_words (after_line s b (read_edit line))) x words after out now
         gives s ts g b lies lie = by (d.is s ts g) e
           where
-            by : {y : Replayed} → ReplayedAs (read_edit line) words s ts v0 w1 y → y ≡ replay.Is su row
+            by : {y : Result (Counts × ℕ) Refusal} → ReplayedAs (read_edit line) words s ts v0 w1 y → y ≡ Ok (su, row)
                 → GivesEdit (edit_on (length out) s b (read_edit line)) (board_words (after_line s b (read_edit line))) x words after out now
             by (not_made h) z = absurd (let w : ◌≡◌ {A = ℕ} 0 1 = cc in omega arith)
-            by (replayed {st = sv} i xs q low acc h) z =
-                let j : sv ≡ su = cc in
-                let w : row ≡ i.row = cc in
-                edit_is line i (rw w at p) s ts g b lie xs q (rw j at acc) (h b lies).0 ((h b lies).1 (length out))
+            by (replayed i xs q low acc h) z =
+                let j = same_parts z in
+                edit_is line i (rw (sym j.1) at p) s ts g b lie xs q (rw j.0 at acc) (h b lies).0 ((h b lies).1 (length out))

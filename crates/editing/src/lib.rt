@@ -10,16 +10,10 @@ ghost use Rattle.renewal.specs.Fresh.{KnownAccepted};
 ghost use Rattle.editing.specs.Edited.{RenewsBoard, EditsBoard};
 
 use board_words::store_board;
-use renewal::{Renewal, renew};
-use replay::{Replayed, replay_edit};
+use memory::refusals::Refused;
+use renewal::renew;
+use replay::replay_edit;
 use tables::Counts;
-
-// How an edit ends: with so many bytes of verdicts and the steps of the rules that were evaluated again; or with a refusal's number and place.
-#[derive(Clone, Copy)]
-pub enum Edited {
-    Written(usize, u64),
-    Refused(u64, u64),
-}
 
 // Renews the verdicts, where w0 has the slots with the edit made, and stores the board. A board that no call has made counts as full.
 fn renew_board(
@@ -30,29 +24,16 @@ fn renew_board(
     row: u64,
     words: &mut [u64],
     out: &mut [u8],
-) -> Edited
+) -> Result<(usize, u64), Refused>
     requires least_words_in_bounds { (least_words ≤ length w0.now) × (least_words ≤ length w1.now) × (least_words ≤ length w2.old) × KnownAccepted st w0.now w1.now }
     requires row_lt_most_rows { (row < most_rows) × (least_board ≤ length words.old) }
     ensures { RenewsBoard st w0.now w1.now w2.old w2.new row words.old words.new out.old out.new result }
 {
     let mut placed = [0u64; memory::MOST_RULES as usize];
-    match renew(
-        w0,
-        st,
-        w1,
-        w2,
-        row,
-        &words[memory::BOARD_ENDS..memory::BOARD_END],
-        out,
-        &mut placed,
-    ) {
-        Renewal::Written(end, steps) => {
-            store_board(w0, st, &placed, words);
-            Edited::Written(end, steps)
-        }
-        Renewal::Short => Edited::Refused(18, 0),
-        Renewal::Foreign => Edited::Refused(21, 1),
-    }
+    let ends = &words[memory::BOARD_ENDS..memory::BOARD_END];
+    let (end, steps) = renew(w0, st, w1, w2, row, ends, out, &mut placed)?;
+    store_board(w0, st, &placed, words);
+    Ok((end, steps))
 }
 
 // Makes the edit that the bytes of a line spell.
@@ -64,13 +45,13 @@ pub fn edit_board(
     w2: &mut [u64],
     words: &mut [u64],
     out: &mut [u8],
-) -> Edited
+) -> Result<(usize, u64), Refused>
     requires least_words_in_bounds { (least_words ≤ length w0.old) × (least_words ≤ length w1.now) × (least_words ≤ length w2.old) × (least_board ≤ length words.old) }
     requires known_accepted { KnownAccepted st w0.old w1.now }
     ensures { EditsBoard line.now st w0.old w0.new w1.now w2.old w2.new words.old words.new out.old out.new result }
 {
     match replay_edit(line, words, w0, st) {
-        Replayed::Is(edited, row) => renew_board(w0, edited, w1, w2, row, words, out),
-        Replayed::Refused(n) => Edited::Refused(n, 1),
+        Ok((edited, row)) => renew_board(w0, edited, w1, w2, row, words, out),
+        Err(refusal) => Err(refusal.at(1)),
     }
 }

@@ -4,6 +4,7 @@ use mathlib.Core.Bool.{Bool, true, false}
 use mathlib.Core.List.{List, [], ◌∷◌, ◌++◌}
 use Prim.Native.Nat.{ℕ, ◌+◌, ◌*◌, ◌/◌, ◌%◌, ◌≤◌, ◌<◌}
 use native.Mathlib.Omega.{arith}
+use Rattle.std.specs.Int.{from_bool}
 use native.Mathlib.Decide.{dec_lt}
 use borrow.Author.Tests.{eq-eqb, ne_eqb}
 use lib.ListN.{length, get_or, drop, length-drop, get_or-append}
@@ -25,9 +26,11 @@ use Rattle.emission.specs.Nodes.{packed, parsed_in, NodeIs, HoldsNodes, Emitted}
 
 -- ---- one number for four facts
 
-pub flag_low : {r n : ℕ} (b : Bool) → r ≡ (if b then n else 0) → r ≤ n
-flag_low true e = omega arith
-flag_low false e = omega arith
+pub sum_is : (a b : Bool) (x y : ℕ) {m n : ℕ} → m ≡ from_bool a → n ≡ from_bool b → m + 2 * n + x + y ≡ (if a then 1 else 0) + ((if b then 2 else 0) + (x + y))
+sum_is true true x y p q = omega (arith, p, q)
+sum_is true false x y p q = omega (arith, p, q)
+sum_is false true x y p q = omega (arith, p, q)
+sum_is false false x y p q = omega (arith, p, q)
 
 record Unpacked (m : ℕ) (a b : Bool) (c d : ℕ) : Type 0 where
   count : m / 4 % 8 ≡ c

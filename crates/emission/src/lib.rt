@@ -3,26 +3,18 @@
 #![tactic(auto)]
 
 ghost use Rattle.std.specs.Prelude.{◌≡◌, ◌+◌, ◌≤◌, ◌<◌, length};
-ghost use Rattle.std.specs.Prelude.{if◌then◌else◌};
 ghost use Rattle.sheet.specs.Sizes.{least_words, most_nodes, most_classes};
 ghost use Rattle.emission.specs.Nodes.{packed as packedOf, parsed_in, Emitted};
 
 use shapes::Parsed;
 use trees::operands::put_words;
 
-// n where the test holds, else 0.
-fn flag(b: bool, n: u64) -> u64
-    ensures { result ≡ (if b then n else 0) }
-{
-    if b { n } else { 0 }
-}
-
 // What a form has besides its words, as one word: what its line is still to be judged by.
 fn packed(p: Parsed) -> u64
     requires { (p.count ≤ 4) × (p.classes ≤ most_classes + 1) }
     ensures { result ≡ packedOf p }
 {
-    flag(p.within, 1) + (flag(p.apart, 2) + (4 * p.count as u64 + 32 * p.classes))
+    u64::from(p.within) + 2 * u64::from(p.apart) + 4 * p.count as u64 + 32 * p.classes
 }
 
 // Puts node n down, unless it is past the 768 that there may be.

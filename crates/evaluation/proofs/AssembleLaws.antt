@@ -8,7 +8,7 @@ use lib.ListN.{length}
 use lib.Seq.{slice, slice_empty}
 use lib.Dec.{eqb}
 use borrow.Author.Tests.{lt-ltb, le-ltb, eqb-true, eqb-false}
-use Rattle.std.specs.Prelude.{if◌then◌else◌}
+use Rattle.std.specs.Prelude.{if◌then◌else◌, Option as Optional}
 use Rattle.laws.proofs.Slices.{under_top, slice_join}
 use Rattle.ocl.specs.Types.{Kind, set, sequence, bag, kind_code}
 use Rattle.ocl.specs.Values.{Value, coll, Values, nil, cons, append, add, add_all}
@@ -18,7 +18,6 @@ use Rattle.ocl.specs.Evaluation.{leaf_run}
 use Rattle.ocl.specs.Trace.{Traced, at, bind_t, leaf_trace, no_operand_trace, operand_trace, assemble_trace, operands_trace}
 use Rattle.values.specs.Cells.{enc, encs, Fits, AllFit, fit_nil, fit_cons}
 use Rattle.values.specs.Meanings.{Assembles}
-use Rattle.values.specs.declared.Formed.{Formed}
 use Rattle.values.proofs.Growing.{append_cells}
 use Rattle.nodes.specs.Nodes.{word, kind_of, operands_in, trees_below}
 use Rattle.outcomes.specs.declared.Ended.{Ended}
@@ -101,7 +100,7 @@ module _ {Ok : World → Type 0} (t : List ℕ) (n k : ℕ) {env : List ℕ} {sp
   unfolding assemble_node members_trace assemble_trace gather_run
   assembles m x = record { small = m; ran = λ w ok ρ rel. rw (← c, le-ltb 4 count few) (x w ok ρ rel) }
 
-  pub assemble_done : {D : List ℕ} (f : Formed) {r : Ended} {a : Answer} {kind place : ℕ} → count ≤ j → kind ≡ kind_code (kind_of k) → sp ≤ length S → Assembles kind sp sp end S D f → r ≡ formed_as f s
+  pub assemble_done : {D : List ℕ} (f : Optional ℕ) {r : Ended} {a : Answer} {kind place : ℕ} → count ≤ j → kind ≡ kind_code (kind_of k) → sp ≤ length S → Assembles kind sp sp end S D f → r ≡ formed_as f s
       → n < 768 → 1 ≤ s₀ → s₀ ≤ 1000000 → place ≡ place_of n s₀ → a ≡ arisen r place → EvalsT Ok (assemble_node t n k) env sp s₀ S₀ D a
   assemble_done f h e room x q node low high at i = rw (i, q) (assembles (arisen_small (formed_as f s) (formed_small f s x.small) (placed at node low high)) (λ w ok ρ rel.
       let a = G.at w ok ρ rel in

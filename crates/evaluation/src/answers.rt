@@ -32,10 +32,7 @@ pub fn arose(e: Ended, place: u64) -> Traced
 pub fn earlier(first: u64, second: u64) -> u64
     ensures { result ≡ earlier_of first second }
 {
-    if first == 0 {
-        return second;
-    }
-    first
+    if first == 0 { second } else { first }
 }
 
 // Two bits for the variant, eight for the length or the number, twenty for the steps, which never pass 1,000,000, and thirty for

@@ -79,10 +79,7 @@ fn right(
             if 1 < t {
                 return Traced::Stuck;
             }
-            if place == 0 {
-                return Traced::Value { len, steps: s };
-            }
-            if t == form - codes::AND {
+            if place == 0 || t == form - codes::AND {
                 return Traced::Value { len, steps: s };
             }
             Traced::Undef { steps: s, place }
@@ -120,12 +117,9 @@ pub fn conditional(
     let Traced::Value { len: _, steps: s } = first else {
         return first;
     };
-    let t = truth(stack[sp]);
-    if t == 1 {
-        return below(tables, st, nodes, n, 2, env, stack, sp, left, s);
+    match truth(stack[sp]) {
+        1 => below(tables, st, nodes, n, 2, env, stack, sp, left, s),
+        0 => below(tables, st, nodes, n, 3, env, stack, sp, left, s),
+        _ => Traced::Stuck,
     }
-    if t == 0 {
-        return below(tables, st, nodes, n, 3, env, stack, sp, left, s);
-    }
-    Traced::Stuck
 }

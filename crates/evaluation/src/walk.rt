@@ -219,15 +219,13 @@ fn coll(
     }
     let mut end = sp;
     let mut s = steps;
-    let mut k: usize = 0;
-    while k < count {
+    for k in 0..count {
         let member = below(tables, st, nodes, n, k + 1, env, stack, end, left, s);
         let Traced::Value { len, steps: sb } = member else {
             return member;
         };
         end += len;
         s = sb;
-        k += 1;
     }
     let value = formed(assemble(stack, sp, sp, end, form - codes::SET), s);
     arose(value, place_of(n, steps))

@@ -11,7 +11,7 @@ use lib.Pow.{pow_pos}
 use lib.Ieee.{Float, binary64, to_bits}
 use lib.Ieee.Scale.{finite}
 use borrow.Author.Tests.{ltb-false}
-use Rattle.std.specs.Prelude.{if◌then◌else◌}
+use Rattle.std.specs.Prelude.{if◌then◌else◌, Option as Optional, Some, None}
 use Rattle.laws.specs.Integers.{bias}
 use Rattle.laws.proofs.Tests.{and_l, and_r, test_fails, test_true}
 use Rattle.laws.proofs.Orders.{Three, less, same, over, three}
@@ -21,8 +21,6 @@ use Rattle.reals.specs.Floats.{f64_of}
 use Rattle.floats.specs.Meanings.{coded_of, Sound, units_at, whole_at, Holds}
 use Rattle.floats.specs.declared.Number.{Number as Coded}
 use Rattle.floats.specs.declared.Number.TheVariants as coded
-use Rattle.floats.specs.declared.Whole.{Whole}
-use Rattle.floats.specs.declared.Whole.TheVariants as whole
 use Rattle.reals.proofs.Full.{Full, binary64→full, binary64→low}
 use Rattle.reals.proofs.Words.{rank_mono, rank_below, units_inj}
 use Rattle.reals.proofs.Bits.{bits_of_float}
@@ -99,29 +97,29 @@ from b n q h = go (three b 4746794007248502784)
 
 -- ---- what `whole` found
 
-abbrev number_in_lem : Whole → ℕ
-number_in_lem (whole.Is k) = k
-number_in_lem whole.No = 0
+abbrev number_in_lem : Optional ℕ → ℕ
+number_in_lem (Some k) = k
+number_in_lem None = 0
 
-abbrev found : Whole → Bool
-found (whole.Is k) = true
-found whole.No = false
+abbrev found : Optional ℕ → Bool
+found (Some k) = true
+found None = false
 
-whole_found : (b : ℕ) {n : ℕ} {w : Whole} → w ≡ whole_at b → w ≡ whole.Is n → units_at b ≡ n * U
+whole_found : (b : ℕ) {n : ℕ} {w : Optional ℕ} → w ≡ whole_at b → w ≡ Some n → units_at b ≡ n * U
 unfolding whole_at
 whole_found b {n} i j = go (eqb (units_at b % U) 0) (eqb→eq (units_at b % U) 0) (sym i ∙ j)
   where
-    go : (t : Bool) → (T t → units_at b % U ≡ 0) → (if t then whole.Is (units_at b / U) else whole.No) ≡ whole.Is n → units_at b ≡ n * U
+    go : (t : Bool) → (T t → units_at b % U ≡ 0) → (if t then Some (units_at b / U) else None) ≡ Some n → units_at b ≡ n * U
     go true h q = sym (div-add-mod' (units_at b) U) ∙ ap (λ j. units_at b / U * U + j) (h tt) ∙ add-zero (units_at b / U * U) ∙ ap (λ j. j * U) (ap number_in_lem q)
     go false h q = absurd (true≢false (sym (ap found q)))
 
-no_whole : (b : ℕ) {w : Whole} → w ≡ whole_at b → w ≡ whole.No → (n : ℕ) → units_at b ≡ n * U → ⊥
+no_whole : (b : ℕ) {w : Optional ℕ} → w ≡ whole_at b → w ≡ None → (n : ℕ) → units_at b ≡ n * U → ⊥
 no_whole b i j n e = true≢false (ap found (sym (whole_is b n e) ∙ sym i ∙ j))
 
-pub plus_room : (b : ℕ) {n : ℕ} {w : Whole} → b < 4746794007248502784 → w ≡ whole_at b → w ≡ whole.Is n → 2147483648 + n < 18446744073709551616
+pub plus_room : (b : ℕ) {n : ℕ} {w : Optional ℕ} → b < 4746794007248502784 → w ≡ whole_at b → w ≡ Some n → 2147483648 + n < 18446744073709551616
 plus_room b {n} l i j = let h = under b n (whole_found b i j) l in omega (arith, h)
 
-pub minus_room : (b : ℕ) {n : ℕ} {w : Whole} → b ≤ 4746794007248502784 → w ≡ whole_at b → w ≡ whole.Is n → n ≤ 2147483648
+pub minus_room : (b : ℕ) {n : ℕ} {w : Optional ℕ} → b ≤ 4746794007248502784 → w ≡ whole_at b → w ≡ Some n → n ≤ 2147483648
 minus_room b {n} l i j = upto b n (whole_found b i j) l
 
 -- ---- held
@@ -218,21 +216,21 @@ module _ (x : Float) where
   abbrev b : ℕ
   b = to_bits binary64 x
 
-  pub plus_int : {n : ℕ} {w : Whole} → b < 9223372036854775808 → b < 4746794007248502784 → w ≡ whole_at b → w ≡ whole.Is n → Holds x (coded.Integer (2147483648 + n))
+  pub plus_int : {n : ℕ} {w : Optional ℕ} → b < 9223372036854775808 → b < 4746794007248502784 → w ≡ whole_at b → w ≡ Some n → Holds x (coded.Integer (2147483648 + n))
   plus_int {n} h l i j =
       let q = whole_found b i j in
       let k = under b n q l in
       holds_plus x (coded.Integer (2147483648 + n)) (omega (arith, k)) h
       (λ m e f a v. held_as_lem (coded.Integer (2147483648 + n)) (sym (held_int false m e n (units_at_lem b m e f a ∙ q) (range_plus n k))) (int_as (signed false n) (bias_plus n)))
 
-  pub minus_int : {n : ℕ} {w : Whole} → 9223372036854775808 ≤ b → b - 9223372036854775808 ≤ 4746794007248502784 → w ≡ whole_at (b - 9223372036854775808) → w ≡ whole.Is n → Holds x (coded.Integer (2147483648 - n))
+  pub minus_int : {n : ℕ} {w : Optional ℕ} → 9223372036854775808 ≤ b → b - 9223372036854775808 ≤ 4746794007248502784 → w ≡ whole_at (b - 9223372036854775808) → w ≡ Some n → Holds x (coded.Integer (2147483648 - n))
   minus_int {n} h l i j =
       let q = whole_found (b - 2 ^ 63) i j in
       let k = upto (b - 2 ^ 63) n q l in
       holds_minus x (coded.Integer (2147483648 - n)) (omega arith) h
       (λ m e f a v. held_as_lem (coded.Integer (2147483648 - n)) (sym (held_int true m e n (units_at_lem (b - 2 ^ 63) m e f a ∙ q) (range_minus n k))) (int_as (signed true n) (bias_minus n)))
 
-  pub plus_no : {w : Whole} → T (finite x) → b < 9223372036854775808 → w ≡ whole_at b → w ≡ whole.No → Holds x (coded.Real x)
+  pub plus_no : {w : Optional ℕ} → T (finite x) → b < 9223372036854775808 → w ≡ whole_at b → w ≡ None → Holds x (coded.Real x)
   plus_no t h i j =
       holds_plus x (coded.Real x) t h
       (λ m e f a v. held_as_lem (coded.Real x) (sym (held_real false m e (λ n q r. no_whole b i j n (sym (units_at_lem b m e f a) ∙ q)))) (real_as (binary false m e) v))
@@ -242,7 +240,7 @@ module _ (x : Float) where
       holds_plus x (coded.Real x) t h
       (λ m e f a v. held_as_lem (coded.Real x) (sym (held_real false m e (λ n q r. let k = from b n (sym (units_at_lem b m e f a) ∙ q) l in let g = plus_range n r in omega (arith, k, g)))) (real_as (binary false m e) v))
 
-  pub minus_no : {w : Whole} → T (finite x) → 9223372036854775808 ≤ b → w ≡ whole_at (b - 9223372036854775808) → w ≡ whole.No → Holds x (coded.Real x)
+  pub minus_no : {w : Optional ℕ} → T (finite x) → 9223372036854775808 ≤ b → w ≡ whole_at (b - 9223372036854775808) → w ≡ None → Holds x (coded.Real x)
   minus_no t h i j =
       holds_minus x (coded.Real x) t h
       (λ m e f a v. held_as_lem (coded.Real x) (sym (held_real true m e (λ n q r. no_whole (b - 2 ^ 63) i j n (sym (units_at_lem (b - 2 ^ 63) m e f a) ∙ q)))) (real_as (binary true m e) v))

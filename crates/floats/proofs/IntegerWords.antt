@@ -21,32 +21,31 @@ use Rattle.reals.proofs.Words.{rank_below, cell_room}
 use Rattle.reals.proofs.Bits.{real_binary64, real_bits, bits_of_float, real_finite, finite_number}
 use Rattle.floats.specs.Meanings.{whole_at, NumberOf, integer_of, IntegerIn, IntegerCell}
 use Rattle.floats.specs.declared.Number.TheVariants as coded
-use Rattle.floats.specs.declared.Whole.{Whole}
-use Rattle.floats.specs.declared.Whole.TheVariants as whole
 use Rattle.floats.proofs.Casting.{cast}
 use Rattle.floats.proofs.Coding.{same_integer, no_integer_lem, no_float}
 use Rattle.floats.proofs.Holding.{plus_int, minus_int, plus_no, plus_far, minus_no, minus_far}
 use Rattle.floats.proofs.Storing.{float_at, bits_finite, number_below, number_above}
+use Rattle.std.specs.Prelude.{Option as Optional, Some, None}
 
 -- ---- integer_in
 
-in_int : {w n : ℕ} → 4503599627370496 < w → w < 18442240474082181120 → NumberOf w (coded.Integer n) → IntegerIn w (whole.Is n)
+in_int : {w n : ℕ} → 4503599627370496 < w → w < 18442240474082181120 → NumberOf w (coded.Integer n) → IntegerIn w (Some n)
 unfolding integer_of
 in_int {w} {n} a b N = record { sound = N.sound; is = at; low = λ l. absurd (omega (arith, a, l)); high = λ l. absurd (omega (arith, b, l)) }
   where
-    at : (x : Number) → T (kept x) → w ≡ cell x → whole.Is n ≡ integer_of x
-    at (int z) k e = ap (λ j. whole.Is j) (same_integer z (N.is (int z) k e))
+    at : (x : Number) → T (kept x) → w ≡ cell x → Some n ≡ integer_of x
+    at (int z) k e = ap (λ j. Some j) (same_integer z (N.is (int z) k e))
     at (real r) k e = no_integer_lem r (N.is (real r) k e)
 
-in_real : {w : ℕ} {y : Float} → NumberOf w (coded.Real y) → IntegerIn w whole.No
+in_real : {w : ℕ} {y : Float} → NumberOf w (coded.Real y) → IntegerIn w None
 unfolding integer_of
 in_real {w} {y} N = record { sound = tt; is = at; low = λ l. refl; high = λ l. refl }
   where
-    at : (x : Number) → T (kept x) → w ≡ cell x → whole.No ≡ integer_of x
+    at : (x : Number) → T (kept x) → w ≡ cell x → None ≡ integer_of x
     at (int z) k e = no_float z (N.is (int z) k e)
     at (real r) k e = refl
 
-no_word : (w : ℕ) → ((x : Number) → T (kept x) → w ≡ cell x → ⊥) → IntegerIn w whole.No
+no_word : (w : ℕ) → ((x : Number) → T (kept x) → w ≡ cell x → ⊥) → IntegerIn w None
 no_word w h = record { sound = tt; is = λ x k e. absurd (h x k e); low = λ l. refl; high = λ l. refl }
 
 bits_back : (b : ℕ) → b < 2 ^ 64 → b % 2 ^ 63 < 2047 * 2 ^ 52 → to_bits binary64 (of_bits binary64 b) ≡ b
@@ -76,24 +75,24 @@ module _ (w : ℕ) (l : w < 9223372036854775808) where
     finite_x : T (finite x)
     finite_x = bits_finite (9223372036854775808 + size) (omega (arith, h)) low
 
-  pub below_int : {n : ℕ} {v : Whole} → size ≤ 4746794007248502784 → v ≡ whole_at size → v ≡ whole.Is n → IntegerIn w (whole.Is (2147483648 - n))
+  pub below_int : {n : ℕ} {v : Optional ℕ} → size ≤ 4746794007248502784 → v ≡ whole_at size → v ≡ Some n → IntegerIn w (Some (2147483648 - n))
   below_int g i j =
       let h : 4503599627370496 < w = omega (arith, g) in
       let s = size_x h in
       in_int h (omega (arith, l)) (number_below w h l (minus_int x (minus h) (omega (arith, s, g)) (i ∙ ap whole_at (sym s)) j))
 
-  pub below_no : {v : Whole} → size ≤ 4746794007248502784 → v ≡ whole_at size → v ≡ whole.No → IntegerIn w whole.No
+  pub below_no : {v : Optional ℕ} → size ≤ 4746794007248502784 → v ≡ whole_at size → v ≡ None → IntegerIn w None
   below_no g i j =
       let h : 4503599627370496 < w = omega (arith, g) in
       in_real (number_below w h l (minus_no x (finite_x h) (minus h) (i ∙ ap whole_at (sym (size_x h))) j))
 
-  pub below_far : 4746794007248502784 < size → IntegerIn w whole.No
+  pub below_far : 4746794007248502784 < size → IntegerIn w None
   below_far g = go (three 4503599627370496 w)
     where
-      away : w ≤ 4503599627370496 → IntegerIn w whole.No
+      away : w ≤ 4503599627370496 → IntegerIn w None
       away h = no_word w (λ y k e. let r = (cell_room y k).0 in omega (arith, h, e, r))
 
-      go : Three 4503599627370496 w → IntegerIn w whole.No
+      go : Three 4503599627370496 w → IntegerIn w None
       go (less h) = let s = size_x h in in_real (number_below w h l (minus_far x (finite_x h) (minus h) (omega (arith, s, g))))
       go (same h) = away (omega (arith, h))
       go (over h) = away (omega (arith, h))
@@ -119,24 +118,24 @@ module _ (w : ℕ) (l : 9223372036854775808 ≤ w) where
     finite_y : T (finite y)
     finite_y = bits_finite up (omega (arith, h)) low_up
 
-  pub above_int : {n : ℕ} {v : Whole} → up < 4746794007248502784 → v ≡ whole_at up → v ≡ whole.Is n → IntegerIn w (whole.Is (2147483648 + n))
+  pub above_int : {n : ℕ} {v : Optional ℕ} → up < 4746794007248502784 → v ≡ whole_at up → v ≡ Some n → IntegerIn w (Some (2147483648 + n))
   above_int g i j =
       let h : w < 18442240474082181120 = omega (arith, g) in
       let s = bits_y h in
       in_int (omega (arith, l)) h (number_above w l h (plus_int y (plus h) (omega (arith, s, g)) (i ∙ ap whole_at (sym s)) j))
 
-  pub above_no : {v : Whole} → up < 4746794007248502784 → v ≡ whole_at up → v ≡ whole.No → IntegerIn w whole.No
+  pub above_no : {v : Optional ℕ} → up < 4746794007248502784 → v ≡ whole_at up → v ≡ None → IntegerIn w None
   above_no g i j =
       let h : w < 18442240474082181120 = omega (arith, g) in
       in_real (number_above w l h (plus_no y (finite_y h) (plus h) (i ∙ ap whole_at (sym (bits_y h))) j))
 
-  pub above_far : 4746794007248502784 ≤ up → IntegerIn w whole.No
+  pub above_far : 4746794007248502784 ≤ up → IntegerIn w None
   above_far g = go (three w 18442240474082181120)
     where
-      away : 18442240474082181120 ≤ w → IntegerIn w whole.No
+      away : 18442240474082181120 ≤ w → IntegerIn w None
       away h = no_word w (λ u k e. let r = (cell_room u k).1 in omega (arith, h, e, r))
 
-      go : Three w 18442240474082181120 → IntegerIn w whole.No
+      go : Three w 18442240474082181120 → IntegerIn w None
       go (less h) = let s = bits_y h in in_real (number_above w l h (plus_far y (finite_y h) (plus h) (omega (arith, s, g))))
       go (same h) = away (omega (arith, h))
       go (over h) = away (omega (arith, h))

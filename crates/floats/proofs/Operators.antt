@@ -1,7 +1,6 @@
 -- f64's operators on finite operands: none gives a NaN, unless the divisor is zero. Assumes nothing.
 use mathlib.Core.Path.{◌≡◌, refl, sym, ap, ◌∙◌, subst}
 use mathlib.Core.Bool.{Bool, true, false, not, ◌&&◌, ◌||◌, cond, beq, true≢false}
-use mathlib.Core.Option.{some}
 use Prim.Native.Nat.{ℕ, zero, suc, ◌+◌, ◌-◌, ◌*◌, ◌/◌, ◌%◌, ◌^◌, ◌<◌, compare}
 use native.Mathlib.Nat.{mul-pos, zero-mul, mul-one, zero-lt-suc}
 use native.Mathlib.Omega.{arith}
@@ -15,7 +14,7 @@ use lib.Ieee.Fits.{up_pos, down_pos}
 use lib.Ieee.Scale.{finite}
 use borrow.Author.Tests.{eq-eqb}
 use Rattle.laws.proofs.Tests.{test_same, and_l}
-use Rattle.reals.specs.Reals.{Real, binary, is_binary64, add, is_zero}
+use Rattle.reals.specs.Reals.{Real, binary, is_binary64, is_zero}
 use Rattle.reals.specs.Floats.{f64_of}
 use Rattle.reals.proofs.Floats.{the_value}
 

@@ -7,14 +7,14 @@ use Prim.Native.Nat.{ℕ, suc, ◌+◌, ◌-◌, ◌*◌, ◌%◌, ◌^◌, ◌�
 use native.Mathlib.Nat.{lt_of_lt_of_le}
 use native.Mathlib.Omega.{arith}
 use lib.Dec.{T, eqb}
-use lib.ListN.{length, get_or, drop, drop_of_length-le}
+use lib.ListN.{length, get_or, take, drop, drop_of_length-le, length-drop}
 use lib.Pow.{pow-add, pow_mono}
 use lib.Ieee.{Float, binary64, of_bits, nan_bits}
 use lib.Ieee.Scale.{finite}
 use borrow.Author.Tests.{eq-eqb, ne_eqb}
 use Rattle.laws.specs.Choice.{on_some}
-use Rattle.std.specs.Prelude.{if◌then◌else◌}
-use Rattle.laws.proofs.Parts.{at_next}
+use Rattle.std.specs.Prelude.{if◌then◌else◌, Result, Ok, Err}
+use Rattle.laws.proofs.Parts.{at_next, part_all}
 use Rattle.laws.proofs.Tests.{and_l, by-if, test_true}
 use Rattle.reals.specs.Reals.{is_binary64, is_real, held, kept}
 use Rattle.reals.specs.Bits.{from_bits}
@@ -26,10 +26,10 @@ use Rattle.reals.proofs.Digits.{digit_decimal, digit_letter, digit_low, digit_be
 use Rattle.floats.specs.Meanings.{coded_of, spelled_of, SoundText, Holds, digit_or, ReadsReal}
 use Rattle.floats.specs.declared.Number.{Number as Coded}
 use Rattle.floats.specs.declared.Number.TheVariants as coded
-use Rattle.floats.specs.declared.Spelled.{Spelled}
-use Rattle.floats.specs.declared.Spelled.TheVariants as spelled
 use Rattle.floats.proofs.Coding.{real_by, int_by}
 use Rattle.floats.proofs.Storing.{float_at, bits_finite}
+use Rattle.memory.specs.declared.refusals.Misread.{Misread}
+use Rattle.memory.specs.declared.refusals.Misread.TheVariants.{Malformed, OverLimit}
 
 -- ---- one digit
 
@@ -63,75 +63,68 @@ digit_small c {v} e f = go (a_digit c)
 
 -- ---- all digits
 
--- the digits before i are those of b, and what all digits stand for follows from b and the rest
-pub record ReadTo (s : List ℕ) (b i : ℕ) : Type 0 where
-  pub from : 1 ≤ i
-  pub upto : i ≤ 17
-  pub below : b < 2 ^ (4 * (i - 1))
-  pub same : hex_number b (drop i s) ≡ hex_number 0 (drop 1 s)
-
-pub none_read : (s : List ℕ) → ReadTo s 0 1
-none_read s = record { from = omega arith; upto = omega arith; below = omega arith; same = refl }
+-- the first i digits are those of b, and what all digits stand for follows from b and the rest
+pub record ReadTo (ds : List ℕ) (b i : ℕ) : Type 0 where
+  pub below : b < 2 ^ (4 * i)
+  pub same : hex_number b (drop i ds) ≡ hex_number 0 ds
 
 -- there is room for one digit more
-read_room : {s : List ℕ} {b i : ℕ} → ReadTo s b i → i < 17 → b < 1152921504606846976
-read_room {i = i} r h = let l = r.from in lt_of_lt_of_le r.below (pow_mono {i = (4 * (i - 1))} {j = 60} (omega (arith, l, h)))
+read_room : {ds : List ℕ} {b i : ℕ} → length ds ≡ 16 → ReadTo ds b i → i < length ds → b < 1152921504606846976
+read_room {i = i} long r h = lt_of_lt_of_le r.below (pow_mono {i = 4 * i} {j = 60} (omega (arith, h, long)))
 
-pub read_times : {s : List ℕ} {b i : ℕ} → ReadTo s b i → i < 17 → b * 16 < 18446744073709551616
-read_times r h = let k = read_room r h in omega (arith, k)
+pub read_times : {ds : List ℕ} {b i : ℕ} → length ds ≡ 16 → ReadTo ds b i → i < length ds → b * 16 < 18446744073709551616
+read_times long r h = let k = read_room long r h in omega (arith, k)
 
-pub read_plus : {s : List ℕ} {b i v : ℕ} (c : ℕ) → ReadTo s b i → i < 17 → v ≡ digit_or (hex_digit c) → (v ≡ 16 → ⊥) → b * 16 + v < 18446744073709551616
-read_plus c r h e f = let k = read_room r h in let l = digit_small c e f in omega (arith, k, l)
+pub read_plus : {ds : List ℕ} {b i v : ℕ} → length ds ≡ 16 → ReadTo ds b i → i < length ds → v ≡ digit_or (hex_digit (get_or ds i 0)) → (v ≡ 16 → ⊥) → b * 16 + v < 18446744073709551616
+read_plus {ds} {i = i} long r h e f = let k = read_room long r h in let l = digit_small (get_or ds i 0) e f in omega (arith, k, l)
 
-grows : (i b v : ℕ) → 1 ≤ i → v < 16 → b < 2 ^ (4 * (i - 1)) → b * 16 + v < 2 ^ (4 * (i + 1 - 1))
-grows i b v l h k =
-    let e : 4 * (i + 1 - 1) ≡ 4 * (i - 1) + 4 = omega (arith, l) in
-    let p : 2 ^ (4 * (i + 1 - 1)) ≡ 2 ^ (4 * (i - 1)) * 16 = ap (λ j. 2 ^ j) e ∙ pow-add 2 (4 * (i - 1)) 4 in
+grows : (i b v : ℕ) → v < 16 → b < 2 ^ (4 * i) → b * 16 + v < 2 ^ (4 * (i + 1))
+grows i b v h k =
+    let e : 4 * (i + 1) ≡ 4 * i + 4 = omega arith in
+    let p : 2 ^ (4 * (i + 1)) ≡ 2 ^ (4 * i) * 16 = ap (λ j. 2 ^ j) e ∙ pow-add 2 (4 * i) 4 in
     omega (arith, h, k, p)
 
 -- the digit at i, read after b
 abbrev onward : List ℕ → ℕ → ℕ → Option ℕ → Option ℕ
-onward s b i o = on_some o (λ d. hex_number (b * 16 + d) (drop (i + 1) s))
+onward ds b i o = on_some o (λ d. hex_number (b * 16 + d) (drop (i + 1) ds))
 
-split : (s : List ℕ) (b i : ℕ) → i < length s → hex_number b (drop i s) ≡ onward s b i (hex_digit (get_or s i 0))
+split : (ds : List ℕ) (b i : ℕ) → i < length ds → hex_number b (drop i ds) ≡ onward ds b i (hex_digit (get_or ds i 0))
 unfolding hex_number
-split s b i h = ap (hex_number b) (at_next 0 s i h)
+split ds b i h = ap (hex_number b) (at_next 0 ds i h)
 
-pub read_next : (s : List ℕ) {b i v : ℕ} → length s ≡ 17 → ReadTo s b i → i < 17 → v ≡ digit_or (hex_digit (get_or s i 0)) → (v ≡ 16 → ⊥) → ReadTo s (b * 16 + v) (i + 1)
+pub read_next : (ds : List ℕ) {b i v : ℕ} → ReadTo ds b i → i < length ds → v ≡ digit_or (hex_digit (get_or ds i 0)) → (v ≡ 16 → ⊥) → ReadTo ds (b * 16 + v) (i + 1)
 unfolding on_some digit_or
-read_next s {b} {i} {v} long r h e f = go (a_digit (get_or s i 0))
+read_next ds {b} {i} {v} r h e f = go (a_digit (get_or ds i 0))
   where
-    go : Digit (get_or s i 0) → ReadTo s (b * 16 + v) (i + 1)
+    go : Digit (get_or ds i 0) → ReadTo ds (b * 16 + v) (i + 1)
     go (is_digit_lem d l q) =
         let k : v ≡ d = e ∙ ap digit_or q in
         record {
-          from = omega arith;
-          upto = omega (arith, h);
-          below = grows i b v r.from (omega (arith, l, k)) r.below;
-          same = ap (λ j. hex_number (b * 16 + j) (drop (i + 1) s)) k ∙ sym (split s b i (omega (arith, h, long)) ∙ ap (onward s b i) q) ∙ r.same;
+          below = grows i b v (omega (arith, l, k)) r.below;
+          same = ap (λ j. hex_number (b * 16 + j) (drop (i + 1) ds)) k ∙ sym (split ds b i h ∙ ap (onward ds b i) q) ∙ r.same;
         }
     go (no_digit q) = absurd (f (e ∙ ap digit_or q))
 
-read_none : (s : List ℕ) {b i v : ℕ} → length s ≡ 17 → ReadTo s b i → i < 17 → v ≡ digit_or (hex_digit (get_or s i 0)) → v ≡ 16 → hex_number 0 (drop 1 s) ≡ none
+read_none : (ds : List ℕ) {b i v : ℕ} → ReadTo ds b i → i < length ds → v ≡ digit_or (hex_digit (get_or ds i 0)) → v ≡ 16 → hex_number 0 ds ≡ none
 unfolding on_some digit_or
-read_none s {b} {i} {v} long r h e f = sym r.same ∙ split s b i (omega (arith, h, long)) ∙ ap (onward s b i) (go (a_digit (get_or s i 0)))
+read_none ds {b} {i} {v} r h e f = sym r.same ∙ split ds b i h ∙ ap (onward ds b i) (go (a_digit (get_or ds i 0)))
   where
-    go : Digit (get_or s i 0) → hex_digit (get_or s i 0) ≡ none
+    go : Digit (get_or ds i 0) → hex_digit (get_or ds i 0) ≡ none
     go (is_digit_lem d l q) = let k : d ≡ 16 = sym (ap digit_or q) ∙ sym e ∙ f in absurd (omega (arith, l, k))
     go (no_digit q) = q
 
-read_some : (s : List ℕ) {b i : ℕ} → length s ≡ 17 → ReadTo s b i → 17 ≤ i → hex_number 0 (drop 1 s) ≡ some b
+read_some : (ds : List ℕ) {b i : ℕ} → ReadTo ds b i → length ds ≤ i → hex_number 0 ds ≡ some b
 unfolding hex_number
-read_some s {b} {i} long r h = sym r.same ∙ ap (hex_number b) (drop_of_length-le s (subst (λ k. k ≤ i) (sym long) h))
+read_some ds {b} {i} r h = sym r.same ∙ ap (hex_number b) (drop_of_length-le ds h)
 
 -- ---- the whole text
 
 -- what is read is finite
-told : (s : List ℕ) {r : Spelled} → r ≡ spelled_of (read_real s) → ReadsReal s r
+told : (s : List ℕ) {r : Result Float Misread} → r ≡ spelled_of (read_real s) → ReadsReal s r
 unfolding spelled_of kept
 told s {r} e = record { sound = go (read_real s) refl e; is = e }
   where
-    bad_or_over : (t : Bool) → SoundText (if t then spelled.Over else spelled.Bad)
+    bad_or_over : (t : Bool) → SoundText (if t then Err OverLimit else Err Malformed)
     bad_or_over true = tt
     bad_or_over false = tt
 
@@ -142,40 +135,50 @@ told s {r} e = record { sound = go (read_real s) refl e; is = e }
 abbrev after : Bool → List ℕ → Reading
 after t cs = if t then of_digits (hex_number 0 cs) else refused 3
 
-pub other_length : (s : List ℕ) → (length s ≡ 17 → ⊥) → ReadsReal s spelled.Bad
+pub other_length : (s : List ℕ) → (length s ≡ 17 → ⊥) → ReadsReal s (Err Malformed)
 unfolding read_real spelled_of
 other_length [] h = told [] refl
 other_length (c ∷ cs) h = told (c ∷ cs) (sym (at (eqb c 114) (ne_eqb (length cs) 16 (λ e. h (ap suc e)))))
   where
-    at : (t : Bool) → eqb (length cs) 16 ≡ false → spelled_of (after (t && eqb (length cs) 16) cs) ≡ spelled.Bad
+    at : (t : Bool) → eqb (length cs) 16 ≡ false → spelled_of (after (t && eqb (length cs) 16) cs) ≡ Err Malformed
     at true e = ap (λ t. spelled_of (after t cs)) e
     at false e = refl
 
-pub other_letter : (s : List ℕ) → length s ≡ 17 → (get_or s 0 0 ≡ 114 → ⊥) → ReadsReal s spelled.Bad
+pub other_letter : (s : List ℕ) → length s ≡ 17 → (get_or s 0 0 ≡ 114 → ⊥) → ReadsReal s (Err Malformed)
 unfolding read_real spelled_of
 other_letter [] l h = told [] refl
 other_letter (c ∷ cs) l h = told (c ∷ cs) (sym (ap (λ t. spelled_of (after (t && eqb (length cs) 16) cs)) (ne_eqb c 114 h)))
 
-by_digits : (s : List ℕ) → length s ≡ 17 → get_or s 0 0 ≡ 114 → read_real s ≡ of_digits (hex_number 0 (drop 1 s))
+-- the digits behind the letter, as the code has them
+abbrev pub digits_of : List ℕ → List ℕ
+digits_of s = take (length s - 1) (drop 1 s)
+
+pub sixteen : (s : List ℕ) → length s ≡ 17 → length (digits_of s) ≡ 16
+sixteen s l = let k = length-drop 1 s in rw (part_all s 1) (omega (arith, k, l))
+
+by_digits : (s : List ℕ) → length s ≡ 17 → get_or s 0 0 ≡ 114 → read_real s ≡ of_digits (hex_number 0 (digits_of s))
 unfolding read_real
 by_digits [] l h = absurd (omega (arith, l))
-by_digits (c ∷ cs) l h = ap (λ t. after (t && eqb (length cs) 16) cs) (eq-eqb c 114 h) ∙ ap (λ t. after t cs) (eq-eqb (length cs) 16 (omega (arith, l)))
+by_digits (c ∷ cs) l h =
+    ap (λ t. after (t && eqb (length cs) 16) cs) (eq-eqb c 114 h)
+    ∙ ap (λ t. after t cs) (eq-eqb (length cs) 16 (omega (arith, l)))
+    ∙ sym (ap (λ ds. of_digits (hex_number 0 ds)) (part_all (c ∷ cs) 1))
 
-pub other_digit : (s : List ℕ) {b i v : ℕ} → length s ≡ 17 → get_or s 0 0 ≡ 114 → ReadTo s b i → i < 17 → v ≡ digit_or (hex_digit (get_or s i 0)) → v ≡ 16 → ReadsReal s spelled.Bad
+pub other_digit : (s : List ℕ) {b i v : ℕ} → length s ≡ 17 → get_or s 0 0 ≡ 114 → ReadTo (digits_of s) b i → i < length (digits_of s) → v ≡ digit_or (hex_digit (get_or (digits_of s) i 0)) → v ≡ 16 → ReadsReal s (Err Malformed)
 unfolding of_digits spelled_of
-other_digit s l h r k e f = told s (sym (ap spelled_of (by_digits s l h ∙ ap of_digits (read_none s l r k e f))))
+other_digit s l h r k e f = told s (sym (ap spelled_of (by_digits s l h ∙ ap of_digits (read_none (digits_of s) r k e f))))
 
-pub all_digits : (s : List ℕ) {b i : ℕ} {r : Spelled} → length s ≡ 17 → get_or s 0 0 ≡ 114 → ReadTo s b i → 17 ≤ i → r ≡ spelled_of (finite_real (from_bits b)) → ReadsReal s r
+pub all_digits : (s : List ℕ) {b i : ℕ} {r : Result Float Misread} → length s ≡ 17 → get_or s 0 0 ≡ 114 → ReadTo (digits_of s) b i → length (digits_of s) ≤ i → r ≡ spelled_of (finite_real (from_bits b)) → ReadsReal s r
 unfolding of_digits
-all_digits s l h t k g = told s (g ∙ sym (ap spelled_of (by_digits s l h ∙ ap of_digits (read_some s l t k))))
+all_digits s l h t k g = told s (g ∙ sym (ap spelled_of (by_digits s l h ∙ ap of_digits (read_some (digits_of s) t k))))
 
 -- ---- the bits
 
 module _ (b : ℕ) {m : ℕ} (w : m ≡ b % 2 ^ 63) where
-  pub bits_over : 9218868437227405312 ≤ m → spelled.Over ≡ spelled_of (finite_real (from_bits b))
+  pub bits_over : 9218868437227405312 ≤ m → Err OverLimit ≡ spelled_of (finite_real (from_bits b))
   unfolding finite_real spelled_of
   bits_over h =
-      by-if (λ x. spelled.Over ≡ spelled_of x) (is_binary64 (from_bits b)) (held_as_real (from_bits b)) (refused 4)
+      by-if (λ x. (Err OverLimit) ≡ spelled_of x) (is_binary64 (from_bits b)) (held_as_real (from_bits b)) (refused 4)
       (λ t. absurd (let l = binary64_low b t in omega (arith, l, h, w))) (λ t. refl)
 
   bits_low : m < 9218868437227405312 → b % 2 ^ 63 < 2047 * 2 ^ 52
@@ -198,10 +201,10 @@ module _ (b : ℕ) {m : ℕ} (w : m ≡ b % 2 ^ 63) (k : b < 1844674407370955161
       ap (λ t. if t then held_as_real (from_bits b) else refused 4) (test_true (is_binary64 (from_bits b)) (real_binary64 b (bits_low b w h)))
       ∙ ap (λ t. if t then reads (from_bits b) else refused 3) e
 
-  pub bits_int : {n : ℕ} → r ≡ coded.Integer n → spelled.Bad ≡ spelled_of (finite_real (from_bits b))
+  pub bits_int : {n : ℕ} → r ≡ coded.Integer n → Err Malformed ≡ spelled_of (finite_real (from_bits b))
   unfolding spelled_of
   bits_int e = sym (ap spelled_of (read_as (int_by (held (from_bits b)) held_so e)))
 
-  pub bits_real : {y : Float} → r ≡ coded.Real y → spelled.Is (of_bits binary64 b) ≡ spelled_of (finite_real (from_bits b))
+  pub bits_real : {y : Float} → r ≡ coded.Real y → Ok (of_bits binary64 b) ≡ spelled_of (finite_real (from_bits b))
   unfolding spelled_of
-  bits_real e = ap spelled.Is (float_at b k) ∙ sym (ap spelled_of (read_as (real_by (held (from_bits b)) held_so e)))
+  bits_real e = ap Ok (float_at b k) ∙ sym (ap spelled_of (read_as (real_by (held (from_bits b)) held_so e)))

@@ -8,9 +8,8 @@ use native.Mathlib.Omega.{arith}
 use lib.Dec.{T, ltb, eqb, ltb→lt}
 use lib.Pow.{pow-add, pow_pos, pow_mono, shl_lt, shl-shr}
 use borrow.Author.Tests.{ltb-false, lt-ltb, le-ltb, ne_eqb}
-use Rattle.std.specs.Prelude.{if◌then◌else◌}
+use Rattle.std.specs.Prelude.{if◌then◌else◌, Some, None}
 use Rattle.floats.specs.Meanings.{units_at, whole_at}
-use Rattle.floats.specs.declared.Whole.TheVariants as whole
 use Rattle.reals.proofs.Full.{Full}
 
 abbrev U : ℕ
@@ -58,18 +57,18 @@ units_ranked m e f = go f.long
 
 -- ---- what is whole
 
-pub whole_is : (b j : ℕ) → units_at b ≡ j * U → whole_at b ≡ whole.Is j
+pub whole_is : (b j : ℕ) → units_at b ≡ j * U → whole_at b ≡ Some j
 unfolding whole_at
 whole_is b j e =
-    ap (λ k. if eqb (k % U) 0 then whole.Is (k / U) else whole.No) e
-    ∙ ap (λ k. if eqb k 0 then whole.Is (j * U / U) else whole.No) (mul-mod_left j U)
-    ∙ ap (λ k. whole.Is k) (mul-div_cancel j (pow_pos 1074))
+    ap (λ k. if eqb (k % U) 0 then Some (k / U) else None) e
+    ∙ ap (λ k. if eqb k 0 then Some (j * U / U) else None) (mul-mod_left j U)
+    ∙ ap (λ k. Some k) (mul-div_cancel j (pow_pos 1074))
 
-whole_not : (b : ℕ) → (units_at b % U ≡ 0 → ⊥) → whole_at b ≡ whole.No
+whole_not : (b : ℕ) → (units_at b % U ≡ 0 → ⊥) → whole_at b ≡ None
 unfolding whole_at
-whole_not b h = ap (λ t. if t then whole.Is (units_at b / U) else whole.No) (ne_eqb (units_at b % U) 0 h)
+whole_not b h = ap (λ t. if t then Some (units_at b / U) else None) (ne_eqb (units_at b % U) 0 h)
 
-pub whole_zero : (b : ℕ) → b ≡ 0 → whole.Is 0 ≡ whole_at b
+pub whole_zero : (b : ℕ) → b ≡ 0 → Some 0 ≡ whole_at b
 whole_zero b z = sym (whole_is b 0 (ap units_at z ∙ units_low 0 (pow_pos 52)))
 
 -- below 1 nothing is whole but 0
@@ -93,7 +92,7 @@ above_zero b h = go (ltb b (2 ^ 52)) refl
         let p : 0 < 2 ^ 52 + b % 2 ^ 52 = omega arith in
         subst (λ w. 0 < w) (sym (units_high b l)) (mul-pos p (pow_pos (b / 2 ^ 52 - 1)))
 
-pub whole_below : (b : ℕ) → (b ≡ 0 → ⊥) → b < 4607182418800017408 → whole.No ≡ whole_at b
+pub whole_below : (b : ℕ) → (b ≡ 0 → ⊥) → b < 4607182418800017408 → None ≡ whole_at b
 whole_below b n h =
     let p : 0 < b = omega (arith, n) in
     let s = above_zero b p in
@@ -124,7 +123,7 @@ module _ (b : ℕ) (lo : 4607182418800017408 ≤ b) (hi : b ≤ 4746794007248502
   shifted = mod-eq_of_lt (lt_of_le_of_lt (div-mul-le_self m (2 ^ k)) (omega arith))
 
   -- all digits after the point are 0
-  pub whole_some : (m / 2 ^ k * 2 ^ k) % 18446744073709551616 ≡ m → whole.Is (m / 2 ^ k) ≡ whole_at b
+  pub whole_some : (m / 2 ^ k * 2 ^ k) % 18446744073709551616 ≡ m → Some (m / 2 ^ k) ≡ whole_at b
   whole_some t =
       let q = m / 2 ^ k in
       sym (whole_is b q (units_here ∙ ap (λ j. j * 2 ^ e) (sym t ∙ shifted) ∙ mul_assoc q (2 ^ k) (2 ^ e) ∙ ap (λ j. q * j) unit))
@@ -138,5 +137,5 @@ module _ (b : ℕ) (lo : 4607182418800017408 ≤ b) (hi : b ≤ 4746794007248502
       let c : m ≡ q * 2 ^ k = eq_of_mul-eq-mul_right (2 ^ e) (pow_pos e) m (q * 2 ^ k) a in
       n (shifted ∙ ap (λ j. j / 2 ^ k * 2 ^ k) c ∙ ap (λ j. j * 2 ^ k) (shl-shr q k) ∙ sym c)
 
-  pub whole_none : ((m / 2 ^ k * 2 ^ k) % 18446744073709551616 ≡ m → ⊥) → whole.No ≡ whole_at b
+  pub whole_none : ((m / 2 ^ k * 2 ^ k) % 18446744073709551616 ≡ m → ⊥) → None ≡ whole_at b
   whole_none n = sym (whole_not b (units_fraction n))

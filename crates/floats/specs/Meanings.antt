@@ -1,5 +1,5 @@
 -- What the contracts say. A promise holds of every number that the arguments stand for.
-use Rattle.std.specs.Prelude.{◌≡◌, List, ℕ, zero, suc, ◌+◌, ◌-◌, ◌*◌, ◌/◌, ◌%◌, ◌^◌, ◌≤◌, ◌<◌, ℤ, T, ltb, eqb, Float}
+use Rattle.std.specs.Prelude.{◌≡◌, List, ℕ, zero, suc, ◌+◌, ◌-◌, ◌*◌, ◌/◌, ◌%◌, ◌^◌, ◌≤◌, ◌<◌, ℤ, T, ltb, eqb, Float, Option as Optional, Some, None, Result as Fallible, Ok, Err}
 use Rattle.std.proofs.Math.Option.{Option, none, some}
 use Rattle.std.specs.Float.Ieee.Scale.{finite}
 use Rattle.std.specs.Prelude.{if◌then◌else◌}
@@ -10,12 +10,10 @@ use Rattle.reals.specs.Floats.{f64_of, Gives}
 use Rattle.reals.specs.Spelling.{Reading, reads, refused, read_real, spell_real}
 use Rattle.floats.specs.declared.Number.{Number as Coded}
 use Rattle.floats.specs.declared.Number.TheVariants as coded
-use Rattle.floats.specs.declared.Whole.{Whole}
-use Rattle.floats.specs.declared.Whole.TheVariants as whole
-use Rattle.floats.specs.declared.Computed.{Computed}
-use Rattle.floats.specs.declared.Computed.TheVariants as computed
-use Rattle.floats.specs.declared.Spelled.{Spelled}
-use Rattle.floats.specs.declared.Spelled.TheVariants as spelled
+use Rattle.floats.specs.declared.NoNumber.{NoNumber}
+use Rattle.floats.specs.declared.NoNumber.TheVariants.{OverRange, Undefined}
+use Rattle.memory.specs.declared.refusals.Misread.{Misread}
+use Rattle.memory.specs.declared.refusals.Misread.TheVariants.{Malformed, OverLimit}
 
 -- ---- what the enums stand for
 
@@ -24,33 +22,33 @@ unfoldable pub coded_of : Number → Coded
 coded_of (int z) = coded.Integer (bias z)
 coded_of (real r) = coded.Real (f64_of r)
 
-unfoldable pub computed_of : Result → Computed
-computed_of (result n) = computed.Is (coded_of n)
-computed_of no_result = computed.Undef
-computed_of over_range = computed.Over
+unfoldable pub computed_of : Result → Fallible Coded NoNumber
+computed_of (result n) = Ok (coded_of n)
+computed_of no_result = Err Undefined
+computed_of over_range = Err OverRange
 
-unfoldable pub spelled_of : Reading → Spelled
-spelled_of (reads r) = spelled.Is (f64_of r)
-spelled_of (refused n) = if eqb n 4 then spelled.Over else spelled.Bad
+unfoldable pub spelled_of : Reading → Fallible Float Misread
+spelled_of (reads r) = Ok (f64_of r)
+spelled_of (refused n) = if eqb n 4 then Err OverLimit else Err Malformed
 
 -- what may be handed over, whatever it stands for
 abbrev pub Sound : Coded → Type 0
 Sound (coded.Integer n) = n < stored_end
 Sound (coded.Real x) = T (finite x)
 
-abbrev pub SoundWhole : Whole → Type 0
-SoundWhole (whole.Is n) = n < stored_end
-SoundWhole whole.No = Unit {0}
+abbrev pub SoundWhole : Optional ℕ → Type 0
+SoundWhole (Some n) = n < stored_end
+SoundWhole None = Unit {0}
 
-abbrev pub SoundResult : Computed → Type 0
-SoundResult (computed.Is n) = Sound n
-SoundResult computed.Undef = Unit {0}
-SoundResult computed.Over = Unit {0}
+abbrev pub SoundResult : Fallible Coded NoNumber → Type 0
+SoundResult (Ok n) = Sound n
+SoundResult (Err Undefined) = Unit {0}
+SoundResult (Err OverRange) = Unit {0}
 
-abbrev pub SoundText : Spelled → Type 0
-SoundText (spelled.Is x) = T (finite x)
-SoundText spelled.Bad = Unit {0}
-SoundText spelled.Over = Unit {0}
+abbrev pub SoundText : Fallible Float Misread → Type 0
+SoundText (Ok x) = T (finite x)
+SoundText (Err Malformed) = Unit {0}
+SoundText (Err OverLimit) = Unit {0}
 
 -- ---- numbers as f64, and back
 
@@ -67,8 +65,8 @@ unfoldable pub units_at : ℕ → ℕ
 units_at n = if ltb n (2 ^ 52) then n else (2 ^ 52 + n % 2 ^ 52) * 2 ^ (n / 2 ^ 52 - 1)
 
 -- the whole number that it is
-unfoldable pub whole_at : ℕ → Whole
-whole_at n = if eqb (units_at n % 2 ^ 1074) 0 then whole.Is (units_at n / 2 ^ 1074) else whole.No
+unfoldable pub whole_at : ℕ → Optional ℕ
+whole_at n = if eqb (units_at n % 2 ^ 1074) 0 then Some (units_at n / 2 ^ 1074) else None
 
 pub record Holds (x : Float) (r : Coded) : Type 0 where
   pub sound : Sound r
@@ -76,7 +74,7 @@ pub record Holds (x : Float) (r : Coded) : Type 0 where
 
 -- ---- operations
 
-pub record Settles (x : Float) (r : Computed) : Type 0 where
+pub record Settles (x : Float) (r : Fallible Coded NoNumber) : Type 0 where
   pub sound : SoundResult r
   pub is : (o : Option Real) → Gives x o → r ≡ computed_of (settled o)
 
@@ -87,7 +85,7 @@ operation_of (suc zero) = minus
 operation_of (suc (suc zero)) = times
 operation_of (suc (suc (suc n))) = over
 
-pub record Calculates (op : Operation) (a b : Coded) (r : Computed) : Type 0 where
+pub record Calculates (op : Operation) (a b : Coded) (r : Fallible Coded NoNumber) : Type 0 where
   pub sound : SoundResult r
   pub is : (x y : Number) → T (kept x) → T (kept y) → a ≡ coded_of x → b ≡ coded_of y → r ≡ computed_of (calculated op x y)
 
@@ -103,16 +101,16 @@ pub record CellOf (s : Coded) (r : ℕ) : Type 0 where
   pub is : (x : Number) → T (kept x) → s ≡ coded_of x → r ≡ cell x
 
 -- the Integer that a number is, with its bias
-unfoldable pub integer_of : Number → Whole
-integer_of (int z) = whole.Is (bias z)
-integer_of (real r) = whole.No
+unfoldable pub integer_of : Number → Optional ℕ
+integer_of (int z) = Some (bias z)
+integer_of (real r) = None
 
-pub record IntegerIn (w : ℕ) (r : Whole) : Type 0 where
+pub record IntegerIn (w : ℕ) (r : Optional ℕ) : Type 0 where
   pub sound : SoundWhole r
   pub is : (x : Number) → T (kept x) → w ≡ cell x → r ≡ integer_of x
   -- no other word has an Integer
-  pub low : w ≤ 2 ^ 52 → r ≡ whole.No
-  pub high : 2 ^ 64 - 2 ^ 52 ≤ w → r ≡ whole.No
+  pub low : w ≤ 2 ^ 52 → r ≡ None
+  pub high : 2 ^ 64 - 2 ^ 52 ≤ w → r ≡ None
 
 pub record IntegerCell (n r : ℕ) : Type 0 where
   pub is : (z : ℤ) → T (in_range z) → n ≡ bias z → r ≡ cell (int z)
@@ -124,7 +122,7 @@ unfoldable pub digit_or : Option ℕ → ℕ
 digit_or none = 16
 digit_or (some d) = d
 
-pub record ReadsReal (s : List ℕ) (r : Spelled) : Type 0 where
+pub record ReadsReal (s : List ℕ) (r : Fallible Float Misread) : Type 0 where
   pub sound : SoundText r
   pub is : r ≡ spelled_of (read_real s)
 

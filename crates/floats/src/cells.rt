@@ -4,8 +4,8 @@ ghost use Rattle.laws.specs.Integers.{stored_end};
 ghost use Rattle.reals.specs.Words.{cell, number_in};
 ghost use Rattle.floats.specs.Meanings.{Sound, NumberOf, CellOf, IntegerIn, IntegerCell};
 
+use crate::Number;
 use crate::numbers::{INFINITE, RANGE, SIGN, ZERO, float_of, hold, whole};
-use crate::{Number, Whole};
 
 // The words of numbers lie between these two, which the infinities would have.
 pub const BELOW: u64 = SIGN - INFINITE;
@@ -16,10 +16,7 @@ pub const ABOVE: u64 = SIGN + INFINITE;
 pub fn number_of(word: u64) -> Number
     ensures { NumberOf word result }
 {
-    if word <= BELOW {
-        return Number::Integer { biased: ZERO };
-    }
-    if ABOVE <= word {
+    if word <= BELOW || ABOVE <= word {
         return Number::Integer { biased: ZERO };
     }
     if word < SIGN {
@@ -33,10 +30,7 @@ pub fn number_of(word: u64) -> Number
 pub fn word_in(word: u64) -> u64
     ensures { result ≡ cell (number_in word) }
 {
-    if word <= BELOW {
-        return SIGN;
-    }
-    if ABOVE <= word {
+    if word <= BELOW || ABOVE <= word {
         return SIGN;
     }
     word
@@ -56,27 +50,25 @@ pub fn cell_of(n: Number) -> u64
 }
 
 // The Integer with this word, where its number is one: found in the bits, without an f64.
-pub fn integer_in(word: u64) -> Whole
+pub fn integer_in(word: u64) -> Option<u64>
     ensures { IntegerIn word result }
 {
     if word < SIGN {
         let size = SIGN - word;
         if size <= RANGE {
-            let w = whole(size);
-            if let Whole::Is { n } = w {
-                return Whole::Is { n: ZERO - n };
+            if let Some(n) = whole(size) {
+                return Some(ZERO - n);
             }
         }
     } else {
         let size = word - SIGN;
         if size < RANGE {
-            let w = whole(size);
-            if let Whole::Is { n } = w {
-                return Whole::Is { n: ZERO + n };
+            if let Some(n) = whole(size) {
+                return Some(ZERO + n);
             }
         }
     }
-    Whole::No
+    None
 }
 
 // The word of an Integer.

@@ -1,5 +1,5 @@
 // Integers and Reals as code holds them (document 02, F-8). A Real is an f64, whose operators are proved to give what `reals` defines
-// in whole numbers, bit for bit. It depends on `laws` and `reals`.
+// in whole numbers, bit for bit. It depends on `laws` and `reals`, and on `memory` for what a spelling is refused for.
 #![tactic(auto)]
 
 pub mod cells; // a number as one word
@@ -13,25 +13,9 @@ pub enum Number {
     Real(f64),
 }
 
-// The whole number that a Real is, where it is one.
+// Why an operation gives no number: it has none to give, or one over the range.
 #[derive(Clone, Copy)]
-pub enum Whole {
-    No,
-    Is { n: u64 },
-}
-
-// What an operation comes to: a number; none; or one that is over the range.
-#[derive(Clone, Copy)]
-pub enum Computed {
-    Is { number: Number },
-    Undef,
-    Over,
-}
-
-// What a text spells: no Real (3), an infinity or a NaN (4), or this one.
-#[derive(Clone, Copy)]
-pub enum Spelled {
-    Bad,
-    Over,
-    Is { x: f64 },
+pub enum NoNumber {
+    Undefined,
+    OverRange,
 }

@@ -5,7 +5,7 @@ ghost use Rattle.std.specs.Float.Ieee.Scale.{finite};
 ghost use Rattle.laws.specs.Integers.{stored_end};
 ghost use Rattle.floats.specs.Meanings.{Sound, Widens, FloatOf, whole_at, Holds, Settles, Calculates, operation_of};
 
-use crate::{Computed, Number, Whole};
+use crate::{NoNumber, Number};
 
 // 0 as it is stored, counted from -2147483648; and the end of all Integers so stored.
 pub const ZERO: u64 = 2_147_483_648;
@@ -46,24 +46,20 @@ pub fn float_of(n: Number) -> f64
 }
 
 // The whole number with these bits, which have no sign and are at most those of 2^31: every binary digit after the point is 0.
-pub fn whole(bits: u64) -> Whole
+pub fn whole(bits: u64) -> Option<u64>
     requires { bits ≤ 4746794007248502784 }
     ensures { result ≡ whole_at bits }
 {
+    if bits == 0 {
+        return Some(0);
+    }
     if bits < ONE {
-        if bits == 0 {
-            return Whole::Is { n: 0 };
-        }
-        return Whole::No;
+        return None;
     }
     let after = 1075 - (bits >> 52);
     let digits = FIRST + bits % FIRST;
     let n = digits >> after;
-    if n << after == digits {
-        Whole::Is { n }
-    } else {
-        Whole::No
-    }
+    if n << after == digits { Some(n) } else { None }
 }
 
 // A finite f64 as a value holds it: a whole number in the range of Integers as that Integer, minus zero as 0.
@@ -74,16 +70,14 @@ pub fn hold(x: f64) -> Number
     let bits = f64::to_bits(x);
     if bits < SIGN {
         if bits < RANGE {
-            let w = whole(bits);
-            if let Whole::Is { n } = w {
+            if let Some(n) = whole(bits) {
                 return Number::Integer { biased: ZERO + n };
             }
         }
     } else {
         let size = bits - SIGN;
         if size <= RANGE {
-            let w = whole(size);
-            if let Whole::Is { n } = w {
+            if let Some(n) = whole(size) {
                 return Number::Integer { biased: ZERO - n };
             }
         }
@@ -92,18 +86,15 @@ pub fn hold(x: f64) -> Number
 }
 
 // What an f64 operation gave: an infinity is over the range.
-fn settle(x: f64) -> Computed
+fn settle(x: f64) -> Result<Number, NoNumber>
     requires { T (not (is_nan x)) }
     ensures { Settles x result }
 {
     let bits = f64::to_bits(x);
-    if bits == INFINITE {
-        return Computed::Over;
+    if bits == INFINITE || bits == SIGN + INFINITE {
+        return Err(NoNumber::OverRange);
     }
-    if bits == SIGN + INFINITE {
-        return Computed::Over;
-    }
-    Computed::Is { number: hold(x) }
+    Ok(hold(x))
 }
 
 // The operations, by their numbers.
@@ -116,7 +107,7 @@ const TIMES: u64 = 2;
 pub const OVER: u64 = 3;
 
 // The operation with the number op, always as Reals.
-pub fn calculate(op: u64, a: Number, b: Number) -> Computed
+pub fn calculate(op: u64, a: Number, b: Number) -> Result<Number, NoNumber>
     requires { Sound a × Sound b }
     ensures { Calculates (operation_of op) a b result }
 {
@@ -128,7 +119,7 @@ pub fn calculate(op: u64, a: Number, b: Number) -> Computed
         TIMES => settle(x * y),
         _ => {
             if y == 0.0 {
-                Computed::Undef
+                Err(NoNumber::Undefined)
             } else {
                 settle(x / y)
             }

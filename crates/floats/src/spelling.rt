@@ -6,8 +6,9 @@ ghost use Rattle.reals.specs.Digits.{hex_byte, hex_digit};
 ghost use Rattle.reals.specs.Spelling.{finite_real};
 ghost use Rattle.floats.specs.Meanings.{digit_or, spelled_of, ReadsReal, Spells};
 
+use crate::Number;
 use crate::numbers::{INFINITE, SIGN, hold};
-use crate::{Number, Spelled};
+use memory::refusals::Misread;
 
 // How many digits the bits of a Real have, and how many bytes it takes with its letter.
 const DIGITS: usize = 16;
@@ -19,8 +20,8 @@ fn digit_of(c: u8) -> u64
     ensures { result ≡ digit_or (hex_digit c) }
 {
     match c {
-        48..=57 => (c - 48) as u64,
-        97..=102 => (c - 87) as u64,
+        48..=57 => u64::from(c - 48),
+        97..=102 => u64::from(c - 87),
         _ => 16,
     }
 }
@@ -45,39 +46,33 @@ fn without_sign(bits: u64) -> u64
 }
 
 // The Real with these bits. A number that is held as an Integer has no such spelling.
-fn real_of(bits: u64) -> Spelled
+fn real_of(bits: u64) -> Result<f64, Misread>
     ensures { result ≡ spelled_of (finite_real (from_bits bits)) }
 {
     if INFINITE <= without_sign(bits) {
-        return Spelled::Over;
+        return Err(Misread::OverLimit);
     }
     let x = f64::from_bits(bits);
-    let n = hold(x);
-    match n {
-        Number::Integer { biased: _ } => Spelled::Bad,
-        Number::Real(_) => Spelled::Is { x },
+    match hold(x) {
+        Number::Integer { .. } => Err(Misread::Malformed),
+        Number::Real(_) => Ok(x),
     }
 }
 
 // The Real that a text spells.
-pub fn read_real(text: &[u8]) -> Spelled
+pub fn read_real(text: &[u8]) -> Result<f64, Misread>
     ensures { ReadsReal text.now result }
 {
-    if text.len() != REAL_BYTES {
-        return Spelled::Bad;
+    if text.len() != REAL_BYTES || text[0] != b'r' {
+        return Err(Misread::Malformed);
     }
-    if text[0] != b'r' {
-        return Spelled::Bad;
-    }
-    let mut bits: u64 = 0;
-    let mut i: usize = 1;
-    while i < REAL_BYTES {
-        let d = digit_of(text[i]);
+    let mut bits = 0;
+    for &c in &text[1..] {
+        let d = digit_of(c);
         if d == 16 {
-            return Spelled::Bad;
+            return Err(Misread::Malformed);
         }
         bits = bits * 16 + d;
-        i += 1;
     }
     real_of(bits)
 }
@@ -89,11 +84,9 @@ pub fn spell_real(x: f64) -> [u8; REAL_BYTES]
 {
     let mut text = [b'r'; REAL_BYTES];
     let mut rest = f64::to_bits(x);
-    let mut k = DIGITS;
-    while 0 < k {
+    for k in (1..REAL_BYTES).rev() {
         text[k] = byte_of(rest & 15);
-        rest = rest >> 4;
-        k -= 1;
+        rest >>= 4;
     }
     text
 }

@@ -32,6 +32,7 @@ use Rattle.importer.specs.Puts.{PutNode, BeginAt, begin_none, begin_done, begin_
 use Rattle.importer.specs.declared.begin.Begun.TheVariants as begun
 use Rattle.importer.proofs.LetLaws.{lets_behind}
 use Rattle.importer.proofs.PutLaws.{put_as}
+use Rattle.std.specs.Prelude.{Option as Optional, Some, None}
 
 -- a tree of one node
 wrote_single : {k n : ℕ} {u v : List ℕ} (x : Tree) (y : Shape) → shapes x n ≡ y ∷ [] → count x ≡ 1 → PutNode k n y u v → (d : ℕ) → Wrote k x n d u v
@@ -59,11 +60,11 @@ unfolding leaf_of
 coded l h e z = none-ne-some _ (sym (ap leaf_of (h.none z)) ∙ e)
 
 module _ {k : ℕ} {s : Bytes} {t : Token} (ahead : Ahead s t) {p : Parsed} (read : FormRead k (map_some leaf_shape (leaf_of (onward s t))) p) where
-  pub begin_leaf : {n : ℕ} {w v : List ℕ} {u : Token} → p.spelled ≡ true → Emitted n p w v → NextIs s t.end u → BeginAt k s t n w (begun.Done u) v
+  pub begin_leaf : {n : ℕ} {w v : List ℕ} {u : Token} → p.spelled ≡ true → Emitted n p w v → NextIs s t.end u → BeginAt k s t n w (Some (begun.Done u)) v
   unfolding map_some count shapes
   begin_leaf {n} {w} {v} {u} b put next = go (leaf_of (onward s t)) refl read.is
     where
-      go : (o : Option Leaf) → leaf_of (onward s t) ≡ o → Spelled k (map_some leaf_shape o) p → BeginAt k s t n w (begun.Done u) v
+      go : (o : Option Leaf) → leaf_of (onward s t) ≡ o → Spelled k (map_some leaf_shape o) p → BeginAt k s t n w (Some (begun.Done u)) v
       go none e (misspelled f) = absurd (true≢false (sym b ∙ f))
       go (some l) e (spelled f z) =
           let o = ahead.one (coded l ahead e) in
@@ -84,58 +85,59 @@ module _ {k : ℕ} {s : Bytes} {t : Token} (ahead : Ahead s t) {p : Parsed} (rea
       go none e z = no_leaf_starts (onward s t) e
       go (some l) e (spelled f z) = absurd (true≢false (sym f ∙ b))
 
-  module _ {n : ℕ} {w : List ℕ} (b : p.spelled ≡ false) {r : Opening} (h : OpeningAs s t (other_start (onward s t)) r) where
-    pub begin_no : r ≡ opening.No → BeginAt k s t n w begun.No w
+  module _ {n : ℕ} {w : List ℕ} (b : p.spelled ≡ false) {r : Optional Opening} (h : OpeningAs s t (other_start (onward s t)) r) where
+    pub begin_no : r ≡ None → BeginAt k s t n w None w
     begin_no e = go (rw e at h)
       where
-        go : OpeningAs s t (other_start (onward s t)) opening.No → BeginAt k s t n w begun.No w
+        go : OpeningAs s t (other_start (onward s t)) None → BeginAt k s t n w None w
         go (opening_none z) = begin_none (other_start_lem b ∙ z)
 
-    pub begin_round : {u : Token} → r ≡ opening.Bracket u → BeginAt k s t n w (begun.Bracket u) w
-    begin_round {u} e = go (rw e at h)
-      where
-        go : OpeningAs s t (other_start (onward s t)) (opening.Bracket u) → BeginAt k s t n w (begun.Bracket u) w
-        go (opening_bracket z f) = begin_bracket (other_start_lem b ∙ z) f
-
-    pub begin_if : {u : Token} → r ≡ opening.Condition u → BeginAt k s t n w (begun.Condition u) w
-    begin_if {u} e = go (rw e at h)
-      where
-        go : OpeningAs s t (other_start (onward s t)) (opening.Condition u) → BeginAt k s t n w (begun.Condition u) w
-        go (opening_condition z f) = begin_condition (other_start_lem b ∙ z) f
-
-    pub begin_braces : {code : ℕ} {u : Token} → r ≡ opening.Members code u → BeginAt k s t n w (begun.Members code u) w
-    begin_braces {code} {u} e = go (rw e at h)
-      where
-        go : OpeningAs s t (other_start (onward s t)) (opening.Members code u) → BeginAt k s t n w (begun.Members code u) w
-        go (opening_members a z c f) = begin_members a (other_start_lem b ∙ z) c f
-
-    module _ {v : List ℕ} {q : Parsed} (put : Emitted n q w v) where
-      pub begin_all : {x : ℕ} {u : Token} → r ≡ opening.All x u → Builds 6 (x ∷ 0 ∷ 0 ∷ 0 ∷ []) k q → BeginAt k s t n w (begun.Done u) v
-      unfolding count shapes count_of form_with fields_by with_code forms form_codes
-      begin_all {x} {u} e built = go (rw e at h)
+    module _ {o : Opening} (i : r ≡ Some o) where
+      pub begin_round : {u : Token} → o ≡ opening.Bracket u → BeginAt k s t n w (Some (begun.Bracket u)) w
+      begin_round {u} e = go (rw (i, e) at h)
         where
-          go : OpeningAs s t (other_start (onward s t)) (opening.All x u) → BeginAt k s t n w (begun.Done u) v
-          go (opening_all c z y f) = begin_done record {
-            tree = leaf (all c);
-            starts = other_start_lem b ∙ z;
-            single = refl;
-            further = f;
-            wrote =
-                wrote_single (leaf (all c)) (leaf_shape (all c)) refl refl
-                (put_as (leaf_shape (all c)) (λ m. built.is (c ∷ []) (omega arith) refl (ap (λ (i : ℕ). i ∷ 0 ∷ 0 ∷ 0 ∷ []) y)) put);
-          }
+          go : OpeningAs s t (other_start (onward s t)) (Some (opening.Bracket u)) → BeginAt k s t n w (Some (begun.Bracket u)) w
+          go (opening_bracket z f) = begin_bracket (other_start_lem b ∙ z) f
 
-      pub begin_empty : {code : ℕ} {u : Token} → r ≡ opening.Empty code u → Assembles code (0 ∷ 0 ∷ 0 ∷ 0 ∷ []) 0 k q → BeginAt k s t n w (begun.Done u) v
-      unfolding count counts roots shapes shapes_of
-      begin_empty {code} {u} e built = go (rw e at h)
+      pub begin_if : {u : Token} → o ≡ opening.Condition u → BeginAt k s t n w (Some (begun.Condition u)) w
+      begin_if {u} e = go (rw (i, e) at h)
         where
-          go : OpeningAs s t (other_start (onward s t)) (opening.Empty code u) → BeginAt k s t n w (begun.Done u) v
-          go (opening_empty a z y f) = begin_done record {
-            tree = assemble a Trees.none;
-            starts = other_start_lem b ∙ z;
-            single = refl;
-            further = f;
-            wrote =
-                wrote_single (assemble a Trees.none) (Shape.assemble a []) refl refl
-                (put_as (Shape.assemble a []) (λ m. built.is a [] (sym y) refl refl) put);
-          }
+          go : OpeningAs s t (other_start (onward s t)) (Some (opening.Condition u)) → BeginAt k s t n w (Some (begun.Condition u)) w
+          go (opening_condition z f) = begin_condition (other_start_lem b ∙ z) f
+
+      pub begin_braces : {code : ℕ} {u : Token} → o ≡ opening.Members code u → BeginAt k s t n w (Some (begun.Members code u)) w
+      begin_braces {code} {u} e = go (rw (i, e) at h)
+        where
+          go : OpeningAs s t (other_start (onward s t)) (Some (opening.Members code u)) → BeginAt k s t n w (Some (begun.Members code u)) w
+          go (opening_members a z c f) = begin_members a (other_start_lem b ∙ z) c f
+
+      module _ {v : List ℕ} {q : Parsed} (put : Emitted n q w v) where
+        pub begin_all : {x : ℕ} {u : Token} → o ≡ opening.All x u → Builds 6 (x ∷ 0 ∷ 0 ∷ 0 ∷ []) k q → BeginAt k s t n w (Some (begun.Done u)) v
+        unfolding count shapes count_of form_with fields_by with_code forms form_codes
+        begin_all {x} {u} e built = go (rw (i, e) at h)
+          where
+            go : OpeningAs s t (other_start (onward s t)) (Some (opening.All x u)) → BeginAt k s t n w (Some (begun.Done u)) v
+            go (opening_all c z y f) = begin_done record {
+              tree = leaf (all c);
+              starts = other_start_lem b ∙ z;
+              single = refl;
+              further = f;
+              wrote =
+                  wrote_single (leaf (all c)) (leaf_shape (all c)) refl refl
+                  (put_as (leaf_shape (all c)) (λ m. built.is (c ∷ []) (omega arith) refl (ap (λ (i : ℕ). i ∷ 0 ∷ 0 ∷ 0 ∷ []) y)) put);
+            }
+
+        pub begin_empty : {code : ℕ} {u : Token} → o ≡ opening.Empty code u → Assembles code (0 ∷ 0 ∷ 0 ∷ 0 ∷ []) 0 k q → BeginAt k s t n w (Some (begun.Done u)) v
+        unfolding count counts roots shapes shapes_of
+        begin_empty {code} {u} e built = go (rw (i, e) at h)
+          where
+            go : OpeningAs s t (other_start (onward s t)) (Some (opening.Empty code u)) → BeginAt k s t n w (Some (begun.Done u)) v
+            go (opening_empty a z y f) = begin_done record {
+              tree = assemble a Trees.none;
+              starts = other_start_lem b ∙ z;
+              single = refl;
+              further = f;
+              wrote =
+                  wrote_single (assemble a Trees.none) (Shape.assemble a []) refl refl
+                  (put_as (Shape.assemble a []) (λ m. built.is a [] (sym y) refl refl) put);
+            }

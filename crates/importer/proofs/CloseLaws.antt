@@ -10,7 +10,7 @@ use Rattle.sheet.specs.Lines.{Shape, forms}
 use Rattle.sheet.specs.Grammar.Trees.{let_in, Tree, two, count, root, two_shape, shapes}
 use Rattle.sheet.proofs.TextNodes.{root_last}
 use Rattle.tables.specs.Layout.{Kept}
-use Rattle.tables.proofs.Tables.{kept_refl, kept_then}
+use Rattle.tables.proofs.Tables.{kept_then}
 use Rattle.shapes.specs.Fields.{cut}
 use Rattle.shapes.specs.Forms.{StandsFor}
 use Rattle.text.specs.Words.{form_codes}
@@ -19,7 +19,7 @@ use Rattle.shapes.specs.Built.{count_of, form_with, Builds}
 use Rattle.shapes.specs.declared.Parsed.{Parsed}
 use Rattle.emission.specs.Nodes.{HoldsNodes, Emitted}
 use Rattle.importer.specs.Lets.{SameLets, Frame, value, body, counted, value_nodes, LetsLie, value_lies, body_lies, Open, ended_in, left_open, LetsClosed}
-use Rattle.importer.proofs.LetLaws.{last_root, last_variable, lets_refl, lets_then, lets_behind, lets_kept, open_size}
+use Rattle.importer.proofs.LetLaws.{lets_then, lets_behind, lets_kept, open_size}
 
 -- some bodies have ended: those that are left end as all of them do
 pub record Left (k from n : ℕ) (fs : List Frame) (x : Tree) (first : List ℕ) (m d : ℕ) (w : List ℕ) : Type 0 where
@@ -40,21 +40,6 @@ pub record Closing (k from m d : ℕ) (before : List ℕ) (m' d' : ℕ) (w : Lis
   pub kept : Kept before w
 
 module _ (k from m d : ℕ) (before : List ℕ) where
-  pub close_start : from ≤ d → 0 < m → m + d ≤ 768 → Closing k from m d before m d before
-  close_start l s a = record {
-    sum = refl;
-    least = l;
-    some = s;
-    few = a;
-    on = λ n fs x first o. record { rest = fs; tree = x; left = refl; ends = refl; is = o };
-    lets = lets_refl from before;
-    kept = kept_refl before;
-  }
-
-  -- there are too many anyway
-  pub close_over : from ≤ d → 768 < m + d → LetsClosed k from m d before (record { nodes = m; lets = d }) before
-  close_over l h = record { sum = refl; least = l; past = λ q. refl; ends = λ n fs x first q. absurd (omega arith); lets = lets_refl from before; kept = kept_refl before }
-
   module _ {m' d' : ℕ} {w : List ℕ} (c : Closing k from m d before m' d' w) where
     -- nothing is left to end
     stopped : ((n : ℕ) (rest : List Frame) (x : Tree) (first : List ℕ) → Open k from n rest x first m' d' w → (left_open rest ≡ rest) × (ended_in rest x ≡ x))
@@ -71,9 +56,11 @@ module _ (k from m d : ℕ) (before : List ℕ) where
       kept = c.kept;
     }
 
-    pub close_all : d' ≤ from → LetsClosed k from m d before (record { nodes = m'; lets = d' }) w
+    pub close_all : d' ≤ from → LetsClosed k from m d before (record { nodes = m'; lets = from }) w
     unfolding left_open ended_in
-    close_all h = stopped (λ n rest x first o. go n rest x first o)
+    close_all h =
+        let e : d' ≡ from = omega (arith, c.least) in
+        subst (λ (j : ℕ). LetsClosed k from m d before (record { nodes = m'; lets = j }) w) e (stopped (λ n rest x first o. go n rest x first o))
       where
         go : (n : ℕ) (rest : List Frame) (x : Tree) (first : List ℕ) → Open k from n rest x first m' d' w → (left_open rest ≡ rest) × (ended_in rest x ≡ x)
         go n [] x first o = (refl, refl)
@@ -81,15 +68,15 @@ module _ (k from m d : ℕ) (before : List ℕ) where
 
     module _ (some-let : from < d') where
       -- of the innermost `let`
-      at_root : (j : ℕ) → d' ≡ from + suc j → get_or w (last_root + d') 0 ≡ get_or w (memory.let_roots + (from + j)) 0
+      at_root : (j : ℕ) → d' ≡ from + suc j → get_or w (memory.let_roots + (d' - 1)) 0 ≡ get_or w (memory.let_roots + (from + j)) 0
       at_root j e = ap (λ (i : ℕ). get_or w i 0) (omega arith)
 
-      at_variable : (j : ℕ) → d' ≡ from + suc j → get_or w (last_variable + d') 0 ≡ get_or w (memory.let_variables + (from + j)) 0
+      at_variable : (j : ℕ) → d' ≡ from + suc j → get_or w (memory.let_variables + (d' - 1)) 0 ≡ get_or w (memory.let_variables + (from + j)) 0
       at_variable j e = ap (λ (i : ℕ). get_or w i 0) (omega arith)
 
-      pub close_value : get_or w (last_root + d') 0 ≡ 0 → LetsClosed k from m d before (record { nodes = m'; lets = d' }) w
+      pub close_value : {lets : ℕ} → d' ≡ lets → get_or w (memory.let_roots + (d' - 1)) 0 ≡ 0 → LetsClosed k from m d before (record { nodes = m'; lets = lets }) w
       unfolding left_open ended_in
-      close_value z = stopped (λ n rest x first o. go n rest x first o o.lies)
+      close_value q z = subst (λ (j : ℕ). LetsClosed k from m d before (record { nodes = m'; lets = j }) w) q (stopped (λ n rest x first o. go n rest x first o o.lies))
         where
           go : (n : ℕ) (rest : List Frame) (x : Tree) (first : List ℕ) → Open k from n rest x first m' d' w → LetsLie w from n rest → (left_open rest ≡ rest) × (ended_in rest x ≡ x)
           go n [] x first o l = absurd (omega (arith, o.lets))
@@ -97,8 +84,8 @@ module _ (k from m d : ℕ) (before : List ℕ) where
           go n (body i e ∷ fs) x first o (body_lies a b l) =
               absurd (let q = at_root (length fs) o.lets in let r = root_last (n + counted fs) e in omega arith)
 
-      module _ {p : Parsed} {v : List ℕ} (root_told : get_or w (last_root + d') 0 ≢ 0)
-          (built : Builds 32 (get_or w (last_variable + d') 0 ∷ (get_or w (last_root + d') 0 - 1) ∷ (m' - 1) ∷ 0 ∷ []) k p) (put : Emitted m' p w v) where
+      module _ {p : Parsed} {v : List ℕ} (root_told : get_or w (memory.let_roots + (d' - 1)) 0 ≢ 0)
+          (built : Builds 32 (get_or w (memory.let_variables + (d' - 1)) 0 ∷ (get_or w (memory.let_roots + (d' - 1)) 0 - 1) ∷ (m' - 1) ∷ 0 ∷ []) k p) (put : Emitted m' p w v) where
         -- a body's `let` is the next node
         node_is : (n : ℕ) (i : ℕ) (e x : Tree) (fs : List Frame) → m' + d' ≤ 768 → d' ≡ from + suc (length fs) → m' ≡ n + ((counted fs + count e) + count x)
             → get_or w (memory.let_variables + (from + length fs)) 0 ≡ cut i → get_or w (memory.let_roots + (from + length fs)) 0 ≡ n + (counted fs + count e)
@@ -108,7 +95,7 @@ module _ (k from m d : ℕ) (before : List ℕ) where
             let r = root_last (n + counted fs) e in
             let t = root_last (n + counted fs + count e) x in
             let y = at_root (length fs) q in
-            let z : get_or w (last_root + d') 0 - 1 ≡ cut (root (n + counted fs) e) = omega arith in
+            let z : get_or w (memory.let_roots + (d' - 1)) 0 - 1 ≡ cut (root (n + counted fs) e) = omega arith in
             let u : m' - 1 ≡ cut (root (n + counted fs + count e) x) = omega arith in
             built.is (i ∷ root (n + counted fs) e ∷ root (n + counted fs + count e) x ∷ []) (omega arith) refl (rw (at_variable (length fs) q ∙ a, z, u))
 

@@ -1,13 +1,14 @@
 -- A word that is an expression by itself: by its code, and by its first byte where it has none. Assumes nothing.
 use mathlib.Core.Path.{◌≡◌, refl, sym, ap, ◌∙◌}
 use mathlib.Core.Logic.{◌≢◌}
-use mathlib.Core.Bool.{Bool, true, false, ◌||◌, not, true≢false}
+use mathlib.Core.Bool.{true, false, ◌||◌, not, true≢false}
 use mathlib.Core.Option.{Option, none, some}
 use mathlib.Core.List.{[], ◌∷◌}
 use Prim.Native.Nat.{ℕ, ◌+◌, ◌<◌, ◌≤◌}
 use native.Mathlib.Omega.{arith}
 use native.Mathlib.Decide.{ℕ_discrete}
 use borrow.Author.Tests.{ne_eqb, leb-true}
+use borrow.Author.Tests.{le-leb, lt-leb}
 use lib.IntN.{ℤ, pos}
 use lib.ListN.{get_or}
 use lib.Dec.{leb}
@@ -24,7 +25,6 @@ use Rattle.sheet.specs.Grammar.Words.{named, labelled, constants, variable_word,
 use Rattle.sheet.specs.Texts.{is_there}
 use Rattle.sheet.proofs.Grammar.Single.{Entries, entry}
 use Rattle.text.specs.Numbers.{cut_num}
-use Rattle.text.specs.declared.numbers.Num.TheVariants as num
 use Rattle.text.proofs.NumberLaws.{num_bad, num_is}
 use Rattle.tokens.specs.Codes.{codes, or_code, code_of, head_code}
 use Rattle.tokens.specs.Meanings.{part, onward, Ahead}
@@ -37,6 +37,7 @@ use Rattle.text.specs.Forms.{with_code, fields_by}
 use Rattle.shapes.specs.Built.{count_of, form_with, Whole, Builds}
 use Rattle.shapes.specs.declared.Parsed.{Parsed}
 use Rattle.importer.specs.Leaves.{leaf_of}
+use Rattle.std.specs.Prelude.{Some, None}
 
 pub form_read : {k : ℕ} {x : Shape} {p : Parsed} → Whole p → StandsFor k x p → FormRead k (some x) p
 form_read w z = record { is = spelled w.spelled z; few = w.few; size = w.size; low = w.classes }
@@ -44,11 +45,11 @@ form_read w z = record { is = spelled w.spelled z; few = w.few; size = w.size; l
 -- ---- a variable
 
 module _ (o : Option ℕ) where
-  pub variable_none : num.Bad ≡ cut_num o → map_some (λ i. leaf (var i)) o ≡ none
+  pub variable_none : None ≡ cut_num o → map_some (λ i. leaf (var i)) o ≡ none
   unfolding map_some
   variable_none h = rw (num_bad o h)
 
-  pub variable_one : {k n : ℕ} {p : Parsed} → num.Is n ≡ cut_num o → Builds 5 (n ∷ 0 ∷ 0 ∷ 0 ∷ []) k p → FormRead k (map_some (λ i. leaf (var i)) o) p
+  pub variable_one : {k n : ℕ} {p : Parsed} → Some n ≡ cut_num o → Builds 5 (n ∷ 0 ∷ 0 ∷ 0 ∷ []) k p → FormRead k (map_some (λ i. leaf (var i)) o) p
   unfolding map_some count_of form_with fields_by with_code forms form_codes
   variable_one {k} {n} {p} h b = go (num_is o h)
     where
@@ -183,6 +184,20 @@ module _ (b : ℕ) (v : Bytes) where
         go none = refl
         go (some i) = refl
 
+-- ---- digits by their range
+
+a_digit : (b : ℕ) → 48 ≤ b → b ≤ 57 → is_digit b ≡ true
+unfolding is_digit
+a_digit b l u = rw (le-leb 48 b l, le-leb b 57 u)
+
+pub below_digits : (b : ℕ) → b < 48 → is_digit b ≡ false
+unfolding is_digit
+below_digits b l = rw (lt-leb 48 b l)
+
+pub above_digits : (b : ℕ) → 48 ≤ b → 57 < b → is_digit b ≡ false
+unfolding is_digit
+above_digits b l u = rw (le-leb 48 b l, lt-leb b 57 u)
+
 -- ---- what the code answers of a token that is no word of the grammar
 
 module _ {s : Bytes} {t : Token} (h : Ahead s t) (other : t.code ≡ 64) where
@@ -200,14 +215,13 @@ module _ {s : Bytes} {t : Token} (h : Ahead s t) (other : t.code ≡ 64) where
       → FormRead k (map_some leaf (leaf_of (onward s t))) p
   real_read e f = at_byte _ (real_leaf _ _ its_code e) (rw (byte_here s t h coded_one) at f)
 
-  module _ {d : Bool} (told : d ≡ is_digit (get_or s t.start 0)) where
-    pub digit_read : {k : ℕ} {p : Parsed} → d ≡ true → FormRead k (map_some (λ x. leaf (number x)) (map_some int (an_integer (part s t.start t.end)))) p
-        → FormRead k (map_some leaf (leaf_of (onward s t))) p
-    digit_read e f = at_byte _ (digit_leaf _ _ its_code (sym told ∙ e)) (rw (byte_here s t h coded_one) at f)
+  pub digit_read : {k : ℕ} {p : Parsed} → 48 ≤ get_or s t.start 0 → get_or s t.start 0 ≤ 57 → FormRead k (map_some (λ x. leaf (number x)) (map_some int (an_integer (part s t.start t.end)))) p
+      → FormRead k (map_some leaf (leaf_of (onward s t))) p
+  digit_read l u f = at_byte _ (digit_leaf _ _ its_code (a_digit _ l u)) (rw (byte_here s t h coded_one) at f)
 
-    pub variable_read : {k : ℕ} {p : Parsed} → get_or s t.start 0 ≢ 114 → d ≡ false → FormRead k (map_some (λ i. leaf (var i)) (variable_word (part s t.start t.end))) p
-        → FormRead k (map_some leaf (leaf_of (onward s t))) p
-    variable_read n e f = at_byte _ (variable_leaf _ _ its_code (sym told ∙ e) n) (rw (byte_here s t h coded_one) at f)
+  pub variable_read : {k : ℕ} {p : Parsed} → get_or s t.start 0 ≢ 114 → is_digit (get_or s t.start 0) ≡ false → FormRead k (map_some (λ i. leaf (var i)) (variable_word (part s t.start t.end))) p
+      → FormRead k (map_some leaf (leaf_of (onward s t))) p
+  variable_read n d f = at_byte _ (variable_leaf _ _ its_code d n) (rw (byte_here s t h coded_one) at f)
 
 -- ---- and of any token
 

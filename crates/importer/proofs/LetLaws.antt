@@ -74,9 +74,6 @@ module _ (d v : ℕ) (w : List ℕ) (long : 8192 ≤ length w) (low : d < 768) w
 abbrev pub last_root : ℕ
 last_root = memory.let_roots - 1
 
-abbrev pub last_variable : ℕ
-last_variable = memory.let_variables - 1
-
 pub not_ended : {d m : ℕ} (w : List ℕ) → 768 < d → ValueEnded d m w w
 not_ended w h = record { lies = λ from n fs i e q l c z. absurd (omega arith); below = λ j l. refl; lets = λ n l. lets_refl n w; kept = kept_refl w }
 

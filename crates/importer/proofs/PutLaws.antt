@@ -10,7 +10,6 @@ use Rattle.ocl.specs.Forms.{plus, minus, times, div, modulo, and, or, for_all, e
 use Rattle.sheet.specs.Lines.{Shape, forms}
 use Rattle.sheet.specs.Grammar.Trees.{One, unary, is_undef, attribute, call, Two, binary, connective, let_in, quantified, conditional, iterate, one_shape, two_shape, three_shape}
 use Rattle.types.specs.Reading.{type_field, held}
-use Rattle.types.specs.declared.GotType.{GotType}
 use Rattle.nodes.specs.Nodes.{unary_words, access_code, binary_code, arith_code, division_code, connective_code, quantifier_code}
 use Rattle.phrases.specs.Forms.{one_words, two_words}
 use Rattle.phrases.specs.Meanings.{StandsAs, StandsAsTwo}
@@ -25,8 +24,9 @@ use Rattle.shapes.specs.declared.iterate.TypeRead.{TypeRead}
 use Rattle.tokens.specs.declared.Token.{Token}
 use Rattle.emission.specs.Nodes.{Emitted}
 use Rattle.importer.specs.Puts.{PutNode, Behind, behind_one, Joins, joins_none, joins_one}
-use Rattle.importer.specs.declared.Found.{Found}
-use Rattle.importer.specs.declared.Found.TheVariants.{No, Is}
+use Rattle.std.specs.Prelude.{Option as Optional, Result, Some, None}
+use Rattle.memory.specs.declared.refusals.Misread.{Misread}
+use Rattle.types.specs.declared.FlatType.{FlatType}
 
 pub put_as : {k n : ℕ} {p : Parsed} {u v : List ℕ} (x : Shape) → (n < 768 → StandsFor k x p) → Emitted n p u v → PutNode k n x u v
 put_as {k} {n} x z put = record { node = λ l xs s h. put.node l k x (z l) xs s h; kept = put.kept }
@@ -163,7 +163,7 @@ module _ {k a b c : ℕ} {p : Parsed} {u v : List ℕ} (some-a : 0 < a) (more : 
       put_as (three_shape conditional (a - 1) (b - 1) (c - 1))
       (λ l. three_by z refl (same (a - 1) (omega arith)) (same (b - 1) (omega arith)) (same (c - 1) (omega arith)) refl) put
 
-  pub put_iteration_is : {i j : ℕ} {g : GotType} {y : TypeRead} → TypeTold g y → Iterates ((a - 1) ∷ i ∷ j ∷ 0 ∷ []) y ((b - 1) ∷ (c - 1) ∷ 0 ∷ 0 ∷ []) k p
+  pub put_iteration_is : {i j : ℕ} {g : Result FlatType Misread} {y : TypeRead} → TypeTold g y → Iterates ((a - 1) ∷ i ∷ j ∷ 0 ∷ []) y ((b - 1) ∷ (c - 1) ∷ 0 ∷ 0 ∷ []) k p
       → (x z : ℕ) (t : Ty) → i ≡ cut x → j ≡ cut z → type_field g ≡ held (some t) → PutNode k c (three_shape (iterate x z t) (a - 1) (b - 1) (c - 1)) u v
   unfolding three_shape
   put_iteration_is {g = g} {y = y} told it x z t e q h =
@@ -175,15 +175,15 @@ module _ {k a b c : ℕ} {p : Parsed} {u v : List ℕ} (some-a : 0 < a) (more : 
 
 -- ---- a sign's form, once its right operand has been looked for
 
-pub behind_is : {a : ℕ} {r : Found} → Behind a r → {u : Token} {b : ℕ} → r ≡ Is u b → (a < b) × (b < 18446744073709551615)
+pub behind_is : {a : ℕ} {r : Optional (Token × ℕ)} → Behind a r → {u : Token} {b : ℕ} → r ≡ Some (u, b) → (a < b) × (b < 18446744073709551615)
 behind_is {a} h {u} {b} e = go (rw e at h)
   where
-    go : Behind a (Is u b) → (a < b) × (b < 18446744073709551615)
+    go : Behind a (Some (u, b)) → (a < b) × (b < 18446744073709551615)
     go (behind_one l m) = (l, m)
 
-module _ {k code a : ℕ} {w : List ℕ} {r : Found} where
-  pub joined_none : r ≡ No → Joins k code a w r No w
+module _ {k code a : ℕ} {w : List ℕ} {r : Optional (Token × ℕ)} where
+  pub joined_none : r ≡ None → Joins k code a w r None w
   joined_none e = rw e joins_none
 
-  pub joined_one : {u : Token} {b : ℕ} {v : List ℕ} → r ≡ Is u b → ((f : Two) → StandsAsTwo f code 0 → PutNode k b (two_shape f (a - 1) (b - 1)) w v) → Joins k code a w r (Is u (b + 1)) v
+  pub joined_one : {u : Token} {b : ℕ} {v : List ℕ} → r ≡ Some (u, b) → ((f : Two) → StandsAsTwo f code 0 → PutNode k b (two_shape f (a - 1) (b - 1)) w v) → Joins k code a w r (Some (u, b + 1)) v
   joined_one e put = rw e (joins_one put)

@@ -1,5 +1,5 @@
 -- What the descent promises, by crates/sheet's `parse`.
-use Rattle.std.specs.Prelude.{◌≡◌, List, ◌++◌, ℕ, ◌+◌, ◌≤◌, ◌<◌, length}
+use Rattle.std.specs.Prelude.{◌≡◌, List, ◌++◌, ℕ, ◌+◌, ◌≤◌, ◌<◌, length, Option as Optional, Some, None}
 use Rattle.std.proofs.Math.Option.{none, some}
 use Rattle.laws.specs.Choice.{on_some, map_some}
 use Rattle.sheet.specs.Sizes.{least_words, most_nodes}
@@ -16,8 +16,6 @@ use Rattle.tokens.specs.Meanings.{onward, Ahead}
 use Rattle.emission.specs.Nodes.{HoldsNodes}
 use Rattle.importer.specs.Lets.{SameLets}
 use Rattle.importer.specs.Answers.{Answers}
-use Rattle.importer.specs.declared.Found.{Found}
-use Rattle.importer.specs.declared.Found.TheVariants.{No, Is}
 
 -- there are no more nodes, n, and open `let`s, d, than bytes before t
 pub record Room (s : Bytes) (t : Token) (n d : ℕ) (w : List ℕ) : Type 0 where
@@ -40,9 +38,9 @@ pub record FoundOne (l : Level) (k : ℕ) (s : Bytes) (t : Token) (n d : ℕ) (b
   pub wrote : Wrote k tree n d before after
 
 -- what was found at t on a level, the line being k
-pub data FoundAt (l : Level) (k : ℕ) (s : Bytes) (t : Token) (n d : ℕ) (before : List ℕ) : Found → List ℕ → Type 0 where
-  found_none : {after : List ℕ} → Answers l (onward s t) none → Kept before after → FoundAt l k s t n d before No after
-  found_one : {u : Token} {m : ℕ} {after : List ℕ} → FoundOne l k s t n d before u m after → FoundAt l k s t n d before (Is u m) after
+pub data FoundAt (l : Level) (k : ℕ) (s : Bytes) (t : Token) (n d : ℕ) (before : List ℕ) : Optional (Token × ℕ) → List ℕ → Type 0 where
+  found_none : {after : List ℕ} → Answers l (onward s t) none → Kept before after → FoundAt l k s t n d before None after
+  found_one : {u : Token} {m : ℕ} {after : List ℕ} → FoundOne l k s t n d before u m after → FoundAt l k s t n d before (Some (u, m)) after
 
 -- a whole expression, and a token of this code after it
 unfoldable pub closed_by : ℕ → parser.Found → parser.Found
@@ -58,7 +56,7 @@ pub record ClosedOne (code k : ℕ) (s : Bytes) (t : Token) (n d : ℕ) (before 
   pub from : t.start + count tree < u.start
   pub wrote : Wrote k tree n d before after
 
-pub data ClosedAt (code k : ℕ) (s : Bytes) (t : Token) (n d : ℕ) (before : List ℕ) : Found → List ℕ → Type 0 where
+pub data ClosedAt (code k : ℕ) (s : Bytes) (t : Token) (n d : ℕ) (before : List ℕ) : Optional (Token × ℕ) → List ℕ → Type 0 where
   closed_none : {o : parser.Found} {after : List ℕ} → Answers whole (onward s t) o → closed_by code o ≡ none → Kept before after
-      → ClosedAt code k s t n d before No after
-  closed_one : {u : Token} {m : ℕ} {after : List ℕ} → ClosedOne code k s t n d before u m after → ClosedAt code k s t n d before (Is u m) after
+      → ClosedAt code k s t n d before None after
+  closed_one : {u : Token} {m : ℕ} {after : List ℕ} → ClosedOne code k s t n d before u m after → ClosedAt code k s t n d before (Some (u, m)) after

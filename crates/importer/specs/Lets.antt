@@ -1,26 +1,21 @@
 -- The `let`s that are open: no bracket limits how many stand inside one another, so that they are no calls. The variable of the j-th lies
 -- at `let_variables`, and one more than its value's root, or 0 while that is read, at `let_roots`. Past 768 none is stored: then there are
 -- too many nodes.
-use Rattle.std.specs.Prelude.{◌≡◌, List, [], ◌∷◌, ◌++◌, ℕ, suc, ◌+◌, ◌≤◌, ◌<◌, length, get_or}
+use Rattle.std.specs.Prelude.{◌≡◌, List, [], ◌∷◌, ◌++◌, ℕ, suc, ◌+◌, ◌≤◌, ◌<◌, length, get_or, Option as Optional, Some, None}
 use Rattle.std.proofs.Math.Option.{none, some}
 use Rattle.memory.specs.Map as memory
-use Rattle.memory.specs.Codes as code
 use Rattle.sheet.specs.Sizes.{most_nodes}
 use Rattle.sheet.specs.Text.{Bytes}
 use Rattle.sheet.specs.Lines.{Shape}
-use Rattle.sheet.specs.Grammar.Tokens.{Tokens}
 use Rattle.sheet.specs.Grammar.Trees.{Tree, let_in, two, count as nodes_in, shapes}
 use Rattle.sheet.specs.Grammar.Parser.{binding}
 use Rattle.tables.specs.Layout.{Kept}
 use Rattle.tokens.specs.declared.Token.{Token}
-use Rattle.tokens.specs.Codes.{after_code}
 use Rattle.tokens.specs.Meanings.{onward}
 use Rattle.phrases.specs.Meanings.{Further}
 use Rattle.shapes.specs.Fields.{cut}
 use Rattle.emission.specs.Nodes.{HoldsNodes}
 use Rattle.importer.specs.declared.lets.Closed.{Closed}
-use Rattle.importer.specs.declared.lets.Head.{Head}
-use Rattle.importer.specs.declared.lets.Head.TheVariants as head
 
 -- the first n are as they were
 pub record SameLets (n : ℕ) (before after : List ℕ) : Type 0 where
@@ -87,12 +82,11 @@ pub record LetOpened (d v : ℕ) (before after : List ℕ) : Type 0 where
   pub lets : SameLets d before after
   pub kept : Kept before after
 
--- `let v1 =` at t, which opens the d-th `let`
-pub data HeadAt (s : Bytes) (t : Token) (d : ℕ) (before : List ℕ) : Head → List ℕ → Type 0 where
-  no_head : after_code code.let_in (onward s t) ≡ none → HeadAt s t d before head.No before
-  broken_head : (r : Tokens) → after_code code.let_in (onward s t) ≡ some r → binding r ≡ none → HeadAt s t d before head.Broken before
-  a_head : {u : Token} {after : List ℕ} {v : ℕ} (r : Tokens) (i : ℕ) → after_code code.let_in (onward s t) ≡ some r → binding r ≡ some (i, onward s u)
-      → v ≡ cut i → Further s t u → LetOpened d v before after → HeadAt s t d before (head.Is u) after
+-- `v1 =` at t, after a `let`, which is the d-th
+pub data HeadAt (s : Bytes) (t : Token) (d : ℕ) (before : List ℕ) : Optional Token → List ℕ → Type 0 where
+  broken_head : binding (onward s t) ≡ none → HeadAt s t d before None before
+  a_head : {u : Token} {after : List ℕ} {v : ℕ} (i : ℕ) → binding (onward s t) ≡ some (i, onward s u) → v ≡ cut i → Further s t u → LetOpened d v before after
+      → HeadAt s t d before (Some u) after
 
 -- the value of the d-th `let` ends with node m - 1
 pub record ValueEnded (d m : ℕ) (before after : List ℕ) : Type 0 where

@@ -1,5 +1,5 @@
 -- What the code promises that puts a node down after its operands, or begins a primary.
-use Rattle.std.specs.Prelude.{◌≡◌, List, [], ◌∷◌, ◌++◌, ℕ, ◌+◌, ◌-◌, ◌<◌, length}
+use Rattle.std.specs.Prelude.{◌≡◌, List, [], ◌∷◌, ◌++◌, ℕ, ◌+◌, ◌-◌, ◌<◌, length, Option as Optional, Some, None}
 use Rattle.std.proofs.Math.Option.{none, some}
 use Rattle.ocl.specs.Types.{Kind}
 use Rattle.sheet.specs.Sizes.{most_nodes}
@@ -13,8 +13,6 @@ use Rattle.tokens.specs.Meanings.{onward}
 use Rattle.phrases.specs.Meanings.{Further, StandsAsTwo}
 use Rattle.emission.specs.Nodes.{HoldsNodes, KeptBehind}
 use Rattle.importer.specs.Descent.{Wrote}
-use Rattle.importer.specs.declared.Found.{Found}
-use Rattle.importer.specs.declared.Found.TheVariants.{No, Is}
 use Rattle.importer.specs.declared.begin.Begun.{Begun}
 use Rattle.importer.specs.declared.begin.Begun.TheVariants as begun
 
@@ -24,15 +22,15 @@ pub record PutNode (k n : ℕ) (x : Shape) (before after : List ℕ) : Type 0 wh
   pub kept : KeptBehind before after
 
 -- what was found, if anything was, has nodes after the first a, and one more can be counted
-pub data Behind (a : ℕ) : Found → Type 0 where
-  behind_none : Behind a No
-  behind_one : {u : Token} {b : ℕ} → a < b → b < 18446744073709551615 → Behind a (Is u b)
+pub data Behind (a : ℕ) : Optional (Token × ℕ) → Type 0 where
+  behind_none : Behind a None
+  behind_one : {u : Token} {b : ℕ} → a < b → b < 18446744073709551615 → Behind a (Some (u, b))
 
 -- the form of two operands with this code is put down after its right one, if that was found; the left one ends before node a
-pub data Joins (k code a : ℕ) (before : List ℕ) : Found → Found → List ℕ → Type 0 where
-  joins_none : Joins k code a before No No before
+pub data Joins (k code a : ℕ) (before : List ℕ) : Optional (Token × ℕ) → Optional (Token × ℕ) → List ℕ → Type 0 where
+  joins_none : Joins k code a before None None before
   joins_one : {u : Token} {b : ℕ} {after : List ℕ} → ((f : Two) → StandsAsTwo f code 0 → PutNode k b (two_shape f (a - 1) (b - 1)) before after)
-      → Joins k code a before (Is u b) (Is u (b + 1)) after
+      → Joins k code a before (Some (u, b)) (Some (u, b + 1)) after
 
 -- a primary of one node
 pub record DoneAt (k : ℕ) (s : Bytes) (t : Token) (n : ℕ) (before : List ℕ) (u : Token) (after : List ℕ) : Type 0 where
@@ -43,10 +41,10 @@ pub record DoneAt (k : ℕ) (s : Bytes) (t : Token) (n : ℕ) (before : List ℕ
   pub wrote : (d : ℕ) → Wrote k tree n d before after
 
 -- how the primary at t begins
-pub data BeginAt (k : ℕ) (s : Bytes) (t : Token) (n : ℕ) (before : List ℕ) : Begun → List ℕ → Type 0 where
-  begin_none : start_of (onward s t) ≡ none → BeginAt k s t n before begun.No before
-  begin_done : {u : Token} {after : List ℕ} → DoneAt k s t n before u after → BeginAt k s t n before (begun.Done u) after
-  begin_bracket : {u : Token} → start_of (onward s t) ≡ some (bracket (onward s u)) → Further s t u → BeginAt k s t n before (begun.Bracket u) before
-  begin_condition : {u : Token} → start_of (onward s t) ≡ some (condition (onward s u)) → Further s t u → BeginAt k s t n before (begun.Condition u) before
+pub data BeginAt (k : ℕ) (s : Bytes) (t : Token) (n : ℕ) (before : List ℕ) : Optional Begun → List ℕ → Type 0 where
+  begin_none : start_of (onward s t) ≡ none → BeginAt k s t n before None before
+  begin_done : {u : Token} {after : List ℕ} → DoneAt k s t n before u after → BeginAt k s t n before (Some (begun.Done u)) after
+  begin_bracket : {u : Token} → start_of (onward s t) ≡ some (bracket (onward s u)) → Further s t u → BeginAt k s t n before (Some (begun.Bracket u)) before
+  begin_condition : {u : Token} → start_of (onward s t) ≡ some (condition (onward s u)) → Further s t u → BeginAt k s t n before (Some (begun.Condition u)) before
   begin_members : {code : ℕ} {u : Token} (a : Kind) → start_of (onward s t) ≡ some (collection a (onward s u)) → assemble_code a ≡ code → Further s t u
-      → BeginAt k s t n before (begun.Members code u) before
+      → BeginAt k s t n before (Some (begun.Members code u)) before

@@ -1,5 +1,5 @@
 -- What the descent promises of an expression whose first token, or whose left side, has been read already.
-use Rattle.std.specs.Prelude.{◌≡◌, List, ◌++◌, ℕ, suc, ◌+◌, ◌*◌, ◌≤◌, ◌<◌, length}
+use Rattle.std.specs.Prelude.{◌≡◌, List, ◌++◌, ℕ, suc, ◌+◌, ◌*◌, ◌≤◌, ◌<◌, length, Option as Optional, Some, None}
 use Rattle.std.proofs.Math.Option.{none, some}
 use Rattle.sheet.specs.Sizes.{most_nodes}
 use Rattle.sheet.specs.Text.{Bytes}
@@ -17,8 +17,6 @@ use Rattle.importer.specs.Lets.{SameLets}
 use Rattle.importer.specs.Leaves.{negated}
 use Rattle.importer.specs.Answers.{Answers}
 use Rattle.importer.specs.Descent.{Wrote}
-use Rattle.importer.specs.declared.Found.{Found}
-use Rattle.importer.specs.declared.Found.TheVariants.{No, Is}
 
 -- so many `not`s of the tree x, whose last node is n - 1
 pub record Negates (k n times : ℕ) (before after : List ℕ) : Type 0 where
@@ -38,10 +36,10 @@ pub record BegunOne (start : Start) (k : ℕ) (s : Bytes) (t : Token) (n d : ℕ
   pub further : t.start < u.start
   pub wrote : Wrote k tree n d before after
 
-pub data BegunAt (start : Start) (k : ℕ) (s : Bytes) (t : Token) (n d : ℕ) (before : List ℕ) : Found → List ℕ → Type 0 where
+pub data BegunAt (start : Start) (k : ℕ) (s : Bytes) (t : Token) (n d : ℕ) (before : List ℕ) : Optional (Token × ℕ) → List ℕ → Type 0 where
   begun_none : {after : List ℕ} → ((s₀ : Tokens) → length (onward s t) < length s₀ → start_of s₀ ≡ some start → Answers primary s₀ none) → Kept before after
-      → BegunAt start k s t n d before No after
-  begun_one : {u : Token} {m : ℕ} {after : List ℕ} → BegunOne start k s t n d before u m after → BegunAt start k s t n d before (Is u m) after
+      → BegunAt start k s t n d before None after
+  begun_one : {u : Token} {m : ℕ} {after : List ℕ} → BegunOne start k s t n d before u m after → BegunAt start k s t n d before (Some (u, m)) after
 
 -- ---- a step of a tree a, whose last node is n - 1; the step's operands are at t
 
@@ -64,6 +62,6 @@ pub record StepOne (next : Next) (k : ℕ) (s : Bytes) (t : Token) (n d : ℕ) (
   pub lets : SameLets d before after
   pub kept : Kept before after
 
-pub data StepAt (next : Next) (k : ℕ) (s : Bytes) (t : Token) (n d : ℕ) (before : List ℕ) : Found → List ℕ → Type 0 where
-  step_none : {after : List ℕ} → ((a : Tree) (s₀ : Tokens) → step_of s₀ ≡ next → Stepped a s₀ none) → Kept before after → StepAt next k s t n d before No after
-  step_one : {u : Token} {m : ℕ} {after : List ℕ} → StepOne next k s t n d before u m after → StepAt next k s t n d before (Is u m) after
+pub data StepAt (next : Next) (k : ℕ) (s : Bytes) (t : Token) (n d : ℕ) (before : List ℕ) : Optional (Token × ℕ) → List ℕ → Type 0 where
+  step_none : {after : List ℕ} → ((a : Tree) (s₀ : Tokens) → step_of s₀ ≡ next → Stepped a s₀ none) → Kept before after → StepAt next k s t n d before None after
+  step_one : {u : Token} {m : ℕ} {after : List ℕ} → StepOne next k s t n d before u m after → StepAt next k s t n d before (Some (u, m)) after

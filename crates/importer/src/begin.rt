@@ -12,18 +12,17 @@ use phrases::openings::opening;
 use shapes::built::{assembled, built};
 use tokens::{Token, next_token};
 
-// No primary; one of a single node, which is put down; or an expression, a condition or members come next.
+// A primary of a single node, which is put down; or an expression, a condition or members come next.
 #[derive(Clone, Copy)]
 pub enum Begun {
-    No,
     Done(Token),
     Bracket(Token),
     Condition(Token),
     Members { code: u64, next: Token },
 }
 
-// How the primary at t begins. One of a single node is put down as node n.
-pub fn begin(s: &[u8], t: Token, w2: &mut [u64], n: usize, k: u64) -> Begun
+// How the primary at t begins, if one does. One of a single node is put down as node n.
+pub fn begin(s: &[u8], t: Token, w2: &mut [u64], n: usize, k: u64) -> Option<Begun>
     requires { Ahead s.now t × (least_words ≤ length w2.old) }
     ensures { BeginAt k s.now t n w2.old result w2.new }
 {
@@ -31,11 +30,10 @@ pub fn begin(s: &[u8], t: Token, w2: &mut [u64], n: usize, k: u64) -> Begun
     if p.spelled {
         emit(w2, n, p);
         let e = t.end;
-        return Begun::Done(next_token(s, e));
+        return Some(Begun::Done(next_token(s, e)));
     }
-    let found = opening(s, t);
-    match found {
-        Opening::No => Begun::No,
+    let found = opening(s, t)?;
+    Some(match found {
         Opening::All { class, next } => {
             emit(w2, n, built(ALL, [class, 0, 0, 0], k));
             Begun::Done(next)
@@ -47,5 +45,5 @@ pub fn begin(s: &[u8], t: Token, w2: &mut [u64], n: usize, k: u64) -> Begun
             Begun::Done(next)
         }
         Opening::Members { code, next } => Begun::Members { code, next },
-    }
+    })
 }

@@ -3,7 +3,6 @@ ghost use Rattle.std.specs.Prelude.{◌≡◌, ◌+◌, ◌≤◌, ◌<◌, leng
 ghost use Rattle.laws.specs.Choice.{map_some};
 ghost use Rattle.ocl.specs.Forms.{var};
 ghost use Rattle.sheet.specs.Sizes.{least_words};
-ghost use Rattle.sheet.specs.Text.{is_digit};
 ghost use Rattle.sheet.specs.Lines.{leaf as leaf_shape};
 ghost use Rattle.sheet.specs.Grammar.Words.{variable_word};
 ghost use Rattle.tokens.specs.Meanings.{part, onward, Ahead};
@@ -14,14 +13,13 @@ ghost use Rattle.importer.specs.Steps.{Negates};
 
 use emission::emit;
 use memory::codes;
-use phrases::After;
 use phrases::words::after;
 use shapes::Parsed;
 use shapes::built::built;
 use shapes::forms::misspelled;
 use shapes::literals::number_form;
 use text::literals::{integer_literal, real_literal};
-use text::numbers::{Num, integer};
+use text::numbers::integer;
 use tokens::{Token, label, signs};
 
 // `v1`
@@ -29,19 +27,10 @@ fn variable(s: &[u8], t: Token, k: u64) -> Parsed
     requires { Ahead s.now t }
     ensures { FormRead k (map_some (λ i. leaf_shape (var i)) (variable_word (part s.now t.start t.end))) result }
 {
-    let Num::Is(n) = label(s, t, b'v') else {
+    let Some(n) = label(s, t, b'v') else {
         return misspelled();
     };
     built(codes::VAR, [n, 0, 0, 0], k)
-}
-
-fn is_digit(b: u8) -> bool
-    ensures { result ≡ is_digit b }
-{
-    if b < b'0' {
-        return false;
-    }
-    b <= b'9'
 }
 
 // A number, or a variable.
@@ -51,14 +40,11 @@ fn named(s: &[u8], t: Token, k: u64) -> Parsed
 {
     let a = t.start;
     let e = t.end;
-    let b = s[a];
-    if b == b'r' {
-        return number_form(real_literal(&s[a..e]), k);
+    match s[a] {
+        b'r' => number_form(real_literal(&s[a..e]), k),
+        b'0'..=b'9' => number_form(integer_literal(integer(&s[a..e])), k),
+        _ => variable(s, t, k),
     }
-    if is_digit(b) {
-        return number_form(integer_literal(integer(&s[a..e])), k);
-    }
-    variable(s, t, k)
 }
 
 // A literal, `undef`, `self` or a variable; else it is not spelled.
@@ -89,18 +75,11 @@ pub fn nots(s: &[u8], t: Token) -> Negations
 {
     let mut u = t;
     let mut n: usize = 0;
-    loop {
-        let not = after(s, u, codes::NEGATION);
-        match not {
-            After::At(next) => {
-                u = next;
-                n += 1;
-            }
-            After::No => {
-                return Negations { next: u, count: n };
-            }
-        }
+    while let Some(next) = after(s, u, codes::NEGATION) {
+        u = next;
+        n += 1;
     }
+    Negations { next: u, count: n }
 }
 
 // Puts so many `not`s down, each over the node before it; the first over node n - 1.
@@ -108,9 +87,7 @@ pub fn negate(w2: &mut [u64], n: usize, count: usize, k: u64)
     requires { (least_words ≤ length w2.old) × (0 < n) × (n + count ≤ 18446744073709551615) }
     ensures { Negates k n count w2.old w2.new }
 {
-    let mut m = n;
-    while m < n + count {
+    for m in n..n + count {
         emit(w2, m, built(codes::NEGATION, [m as u64 - 1, 0, 0, 0], k));
-        m += 1;
     }
 }

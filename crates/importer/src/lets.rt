@@ -6,8 +6,7 @@ ghost use Rattle.importer.specs.Lets.{HeadAt, LetOpened, ValueEnded, LetsClosed}
 
 use emission::emit;
 use memory::codes::LET_IN;
-use phrases::words::{after, binding};
-use phrases::{After, Labelled};
+use phrases::words::binding;
 use shapes::built::built;
 use tokens::Token;
 
@@ -22,35 +21,18 @@ fn open_let(w2: &mut [u64], lets: usize, variable: u64)
     }
 }
 
-// What begins at a token: no `let`; a `let` without `v1 =`; or a whole head, after which the value comes.
-#[derive(Clone, Copy)]
-pub enum Head {
-    No,
-    Broken,
-    Is(Token),
-}
-
-// `let v1 =`, if it begins here.
-pub fn let_head(s: &[u8], t: Token, w2: &mut [u64], lets: usize) -> Head
+// `v1 =`, after `let`: opens the `let`, whose value comes next.
+pub fn let_head(s: &[u8], t: Token, w2: &mut [u64], lets: usize) -> Option<Token>
     requires { Ahead s.now t × (least_words ≤ length w2.old) }
     ensures { HeadAt s.now t lets w2.old result w2.new }
 {
-    let begun = after(s, t, LET_IN);
-    let After::At(u) = begun else {
-        return Head::No;
-    };
-    let named = binding(s, u);
-    let Labelled::Is { n, next } = named else {
-        return Head::Broken;
-    };
+    let (n, next) = binding(s, t)?;
     open_let(w2, lets, n);
-    Head::Is(next)
+    Some(next)
 }
 
-// Where the words of the last of n `let`s lie: n words from here.
+// Where the root of the last of n `let`s lies: n words from here.
 const LAST_ROOT: usize = memory::LET_ROOTS - 1;
-
-const LAST_VARIABLE: usize = memory::LET_VARIABLES - 1;
 
 // Notes that the value of the innermost `let` has been read: its root is the last of so many nodes.
 pub fn end_value(w2: &mut [u64], lets: usize, nodes: usize)
@@ -78,20 +60,24 @@ pub fn close_lets(w2: &mut [u64], nodes: usize, lets: usize, from: usize, k: u64
         return Closed { nodes, lets };
     }
     let mut n = nodes;
-    let mut d = lets;
-    while from < d {
-        let root = w2[LAST_ROOT + d];
+    for i in (from..lets).rev() {
+        let root = w2[memory::LET_ROOTS + i];
         if root == 0 {
-            return Closed { nodes: n, lets: d };
+            return Closed {
+                nodes: n,
+                lets: i + 1,
+            };
         }
-        let variable = w2[LAST_VARIABLE + d];
+        let variable = w2[memory::LET_VARIABLES + i];
         emit(
             w2,
             n,
             built(LET_IN, [variable, root - 1, n as u64 - 1, 0], k),
         );
         n += 1;
-        d -= 1;
     }
-    Closed { nodes: n, lets: d }
+    Closed {
+        nodes: n,
+        lets: from,
+    }
 }

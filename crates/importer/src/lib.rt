@@ -4,23 +4,7 @@
 // depends on `phrases` for what begins at a token, on `trees` for a node's form, and on `emission`.
 #![tactic(auto)]
 
-use tokens::Token;
-
 pub mod leaves; // words that are an expression by themselves; `not`s
 pub mod lets; // `let`s that are open
 pub mod puts; // nodes after their operands
 pub mod begin; // how a primary begins
-
-// No expression; or one, with the token after it and how many nodes there are then.
-#[derive(Clone, Copy)]
-pub enum Found {
-    No,
-    Is { next: Token, nodes: usize },
-}
-
-// A whole text: no sentence, or how many nodes it has.
-#[derive(Clone, Copy)]
-pub enum Imported {
-    No,
-    Is { nodes: usize },
-}

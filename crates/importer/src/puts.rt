@@ -10,12 +10,13 @@ ghost use Rattle.shapes.specs.Fields.{cut};
 ghost use Rattle.shapes.specs.Iterate.{Held};
 ghost use Rattle.importer.specs.Puts.{PutNode, Behind, Joins};
 
-use super::Found;
 use emission::emit;
 use memory::codes;
+use memory::refusals::Misread;
 use shapes::built::built;
 use shapes::iterate::{iterated, type_read};
-use types::GotType;
+use tokens::Token;
+use types::FlatType;
 
 // Puts down a form with one operand, and the class, attribute or definition x that it may hold.
 pub fn put_one(w2: &mut [u64], code: u64, x: u64, a: usize, k: u64)
@@ -40,18 +41,19 @@ pub fn put_two(w2: &mut [u64], code: u64, variable: u64, a: usize, b: usize, k: 
 }
 
 // Puts down a sign's form, if its right operand was found; the left one is named as above.
-pub fn joined(w2: &mut [u64], code: u64, a: usize, right: Found, k: u64) -> Found
+pub fn joined(
+    w2: &mut [u64],
+    code: u64,
+    a: usize,
+    right: Option<(Token, usize)>,
+    k: u64,
+) -> Option<(Token, usize)>
     requires { (least_words ≤ length w2.old) × (0 < a) × Behind a right }
     ensures { Joins k code a w2.old right result w2.new }
 {
-    let Found::Is { next, nodes } = right else {
-        return Found::No;
-    };
+    let (next, nodes) = right?;
     put_two(w2, code, 0, a, nodes, k);
-    Found::Is {
-        next,
-        nodes: nodes + 1,
-    }
+    Some((next, nodes + 1))
 }
 
 // Puts down an `if`.
@@ -75,7 +77,7 @@ pub fn put_iteration(
     w2: &mut [u64],
     i: u64,
     j: u64,
-    of: GotType,
+    of: Result<FlatType, Misread>,
     a: usize,
     b: usize,
     c: usize,

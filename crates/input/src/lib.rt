@@ -4,29 +4,23 @@
 
 ghost use Rattle.input.specs.Input.{Within, Reads};
 
+use std::io;
 use std::io::Read;
 
-// How many bytes stand at the front of a buffer, or that the input could not be read.
-#[derive(Clone, Copy)]
-pub enum Filled {
-    With(usize),
-    Failed,
-}
-
-// Reads until the input ends or the buffer is full.
-pub fn read_input<R: Read>(input: &mut R, text: &mut [u8]) -> Filled
+// Reads until the input ends or the buffer is full, and answers how many bytes stand at the front of the buffer.
+pub fn read_input<R: Read>(input: &mut R, text: &mut [u8]) -> io::Result<usize>
     ensures within { Within text.new result }
     ensures bytes { Reads (R.remaining input.old) (R.remaining input.new) text.new result }
 {
-    let mut n: usize = 0;
+    let mut n = 0;
     while n < text.len() {
         let Ok(more) = input.read(&mut text[n..]) else {
-            return Filled::Failed;
+            return Err(io::Error::other("it could not be read"));
         };
         if more == 0 {
-            return Filled::With(n);
+            break;
         }
         n += more;
     }
-    Filled::With(n)
+    Ok(n)
 }

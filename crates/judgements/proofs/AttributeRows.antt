@@ -9,7 +9,7 @@ use lib.ListN.{get_or, set, take, drop}
 use lib.Seq.{get_or-take, get_or-drop}
 use lib.Dec.{eqb}
 use borrow.Author.Tests.{ne_eqb}
-use Rattle.std.specs.Prelude.{if◌then◌else◌}
+use Rattle.std.specs.Prelude.{if◌then◌else◌, Option as Optional, Some, None, Result, Ok, Err}
 use Rattle.memory.specs.Map as memory
 use Rattle.ocl.specs.Types.{any, boolean, integer, real, class, kind_code, same_kind, Letter, exactly, Ty, void, simple, around}
 use Rattle.ocl.specs.Forms.{of_object, of_members}
@@ -17,10 +17,6 @@ use Rattle.ocl.specs.Model.{Row, Schema, row_read}
 use Rattle.ocl.specs.Typing.{Answer, typed, refused, Typed, pure, then_for, and_then, wrap, on_class, collect_kind, row_type, attribute_type}
 use Rattle.ocl.specs.Marks.{Mark, of_row, of_rows, row_marked, kind_marked}
 use Rattle.types.specs.declared.FlatType.{FlatType}
-use Rattle.types.specs.declared.ClassNumber.{ClassNumber}
-use Rattle.types.specs.declared.ClassNumber.TheVariants as number
-use Rattle.types.specs.declared.RowFound.{RowFound}
-use Rattle.types.specs.declared.RowFound.TheVariants as f
 use Rattle.types.specs.Flat.{letter_of, ty_of}
 use Rattle.types.specs.Parts.{outer_code, member_type, simple_class, class_of, class_number}
 use Rattle.types.specs.Rows.{row_read_in, found}
@@ -29,11 +25,12 @@ use Rattle.types.proofs.Members.{class_is, no_collection, is_collection}
 use Rattle.types.proofs.RowLaws.{ReadsTables, row_read_law}
 use Rattle.types.proofs.RowBounds.{row_below}
 use Rattle.nodes.specs.Marks.{mark_word}
-use Rattle.judgements.specs.declared.Reply.{Reply}
-use Rattle.judgements.specs.declared.Reply.TheVariants as reply
 use Rattle.judgements.specs.Replies.{meaning, write_marks, Tells, ReadsRows}
 use Rattle.judgements.specs.Single.{collect_code}
 use Rattle.judgements.proofs.Composition.{early, after, done}
+use Rattle.memory.specs.Refusals.{at}
+use Rattle.memory.specs.declared.refusals.Refusal.TheVariants.{NoSuchMark, WrongPiece}
+use Rattle.memory.specs.declared.refusals.Refused.{Refused}
 
 -- ---- which types are classes
 
@@ -51,12 +48,12 @@ a_class : {A : Type 0} (x : A) (k : ℕ → A) (t : Ty) (c : ℕ) → some c ≡
 unfolding on_class
 a_class x k t c h = ap (λ (u : Ty). on_class u x k) (class_is t c h)
 
-module _ {A : Type 0} (x : A) (k : ℕ → A) (t : Ty) (y : ClassNumber) (p : class_number y ≡ class_of t) where
-  class_none : y ≡ number.Nothing → on_class t x k ≡ x
+module _ {A : Type 0} (x : A) (k : ℕ → A) (t : Ty) (y : Optional ℕ) (p : class_number y ≡ class_of t) where
+  class_none : y ≡ None → on_class t x k ≡ x
   unfolding class_number
   class_none q = no_class x k t (ap class_number (sym q) ∙ p)
 
-  class_some : (c : ℕ) → y ≡ number.Is c → on_class t x k ≡ k c
+  class_some : (c : ℕ) → y ≡ Some c → on_class t x k ≡ k c
   unfolding class_number
   class_some c q = a_class x k t c (ap class_number (sym q) ∙ p)
 
@@ -68,7 +65,7 @@ owners_in tables = take 64 (drop 64 tables)
 abbrev names_in : List ℕ → List ℕ
 names_in tables = take 64 (drop 128 tables)
 
-pub row_small : (ps owners names : List ℕ) (rows c name : ℕ) (x : RowFound) {i : ℕ} → found x ≡ row_read_in ps owners names rows c name → x ≡ f.At i → i < rows
+pub row_small : (ps owners names : List ℕ) (rows c name : ℕ) (x : Optional ℕ) {i : ℕ} → found x ≡ row_read_in ps owners names rows c name → x ≡ Some i → i < rows
 unfolding found
 row_small ps owners names rows c name x {i} h q = row_below ps owners names rows c name i (sym h ∙ ap found q)
 
@@ -86,16 +83,16 @@ module _ {ps tables : List ℕ} {rows : ℕ} (m : Schema) (to : ReadsRows ps tab
       let k : i < m.row_count = omega (arith, to.count) in
       ap (λ (r : Row). r.type) (to.classes.row i k) ∙ ap type_in (get_or-take 64 (drop 192 tables) i 0 s ∙ get_or-drop 192 tables i 0)
 
-  module _ (n name c : ℕ) (mark : ℕ → Mark) (y : RowFound) (h : found y ≡ row_read_in ps (owners_in tables) (names_in tables) rows c name) where
+  module _ (n name c : ℕ) (mark : ℕ → Mark) (y : Optional ℕ) (h : found y ≡ row_read_in ps (owners_in tables) (names_in tables) rows c name) where
     row_is : row_type m n mark typed (row_read m c name) ≡ row_type m n mark typed (found y)
     row_is = ap (row_type m n mark typed) (row_read_law m ps (owners_in tables) (names_in tables) rows read_tables c name ∙ sym h)
 
-    pub no_row_lem : {B : List ℕ} → y ≡ f.Nothing → Tells (row_type m n mark typed (row_read m c name)) B B (reply.No 12 n)
+    pub no_row_lem : {B : List ℕ} → y ≡ None → Tells (row_type m n mark typed (row_read m c name)) B B (Err (at NoSuchMark n))
     unfolding found row_type
     no_row_lem z = rw (row_is, z) (done refl)
 
-    pub row_at : {B : List ℕ} {i j w : ℕ} {u : FlatType} → rows ≤ 64 → y ≡ f.At i → j ≡ i → ty_of u ≡ type_in (get_or tables (memory.types + j) 0) → mark_word (mark i) ≡ w
-        → Tells (row_type m n mark typed (row_read m c name)) B (set B n w) (reply.Is u)
+    pub row_at : {B : List ℕ} {i j w : ℕ} {u : FlatType} → rows ≤ 64 → y ≡ Some i → j ≡ i → ty_of u ≡ type_in (get_or tables (memory.types + j) 0) → mark_word (mark i) ≡ w
+        → Tells (row_type m n mark typed (row_read m c name)) B (set B n w) (Ok u)
     unfolding found row_type write_marks
     row_at {B} {i} s z l g e =
         let k = row_small ps (owners_in tables) (names_in tables) rows c name y h z in
@@ -106,12 +103,12 @@ module _ {ps tables : List ℕ} {rows : ℕ} (m : Schema) (to : ReadsRows ps tab
 
 -- ---- `attr`
 
-module _ (m : Schema) (n name : ℕ) (t : Ty) (y : ClassNumber) (p : class_number y ≡ class_of t) {B : List ℕ} where
-  pub attribute_not : y ≡ number.Nothing → Tells (attribute_type m n of_object name t) B B (reply.No 11 n)
+module _ (m : Schema) (n name : ℕ) (t : Ty) (y : Optional ℕ) (p : class_number y ≡ class_of t) {B : List ℕ} where
+  pub attribute_not : y ≡ None → Tells (attribute_type m n of_object name t) B B (Err (at WrongPiece n))
   unfolding attribute_type
   attribute_not q = rw (class_none (pure (refused 11 n)) (λ c. row_type m n of_row typed (row_read m c name)) t y p q) (done refl)
 
-  pub attribute_row : {A : List ℕ} {r : Reply} (c : ℕ) → y ≡ number.Is c → Tells (row_type m n of_row typed (row_read m c name)) B A r → Tells (attribute_type m n of_object name t) B A r
+  pub attribute_row : {A : List ℕ} {r : Result FlatType Refused} (c : ℕ) → y ≡ Some c → Tells (row_type m n of_row typed (row_read m c name)) B A r → Tells (attribute_type m n of_object name t) B A r
   unfolding attribute_type
   attribute_row c q d = rw (class_some (pure (refused 11 n)) (λ c. row_type m n of_row typed (row_read m c name)) t y p c q) d
 
@@ -179,28 +176,28 @@ abbrev of_class : Schema → ℕ → ℕ → Letter → ℕ → Typed
 of_class m n name l d = row_type m n (of_rows (collect_kind l)) (wrap n (exactly (collect_kind l))) (row_read m d name)
 
 module _ (m : Schema) (n name : ℕ) (t : Ty) {c : ℕ} (e : c ≡ outer_code t) where
-  pub collect_not : {B : List ℕ} → c ≡ 0 → Tells (attribute_type m n of_members name t) B B (reply.No 11 n)
+  pub collect_not : {B : List ℕ} → c ≡ 0 → Tells (attribute_type m n of_members name t) B B (Err (at WrongPiece n))
   unfolding attribute_type
   collect_not z = rw (no_collection (pure (refused 11 n)) (λ l u. on_class u (pure (refused 11 n)) (of_class m n name l)) t (sym e ∙ z)) (done refl)
 
-  module _ (z : c ≡ 0 → ⊥) (y : ClassNumber) {u : Ty} (g : u ≡ member_type t) (p : class_number y ≡ class_of u) where
+  module _ (z : c ≡ 0 → ⊥) (y : Optional ℕ) {u : Ty} (g : u ≡ member_type t) (p : class_number y ≡ class_of u) where
     on_class_lem : attribute_type m n of_members name t ≡ on_class (member_type t) (pure (refused 11 n)) (of_class m n name (letter_of c))
     unfolding attribute_type
     on_class_lem = is_collection (pure (refused 11 n)) (λ l u. on_class u (pure (refused 11 n)) (of_class m n name l)) t (λ q. z (e ∙ q)) ∙ ap (λ (k : ℕ). on_class (member_type t) (pure (refused 11 n)) (of_class m n name (letter_of k))) (sym e)
 
-    pub collect_no_class : {B : List ℕ} → y ≡ number.Nothing → Tells (attribute_type m n of_members name t) B B (reply.No 11 n)
+    pub collect_no_class : {B : List ℕ} → y ≡ None → Tells (attribute_type m n of_members name t) B B (Err (at WrongPiece n))
     collect_no_class q = rw (on_class_lem, class_none (pure (refused 11 n)) (of_class m n name (letter_of c)) (member_type t) y (p ∙ ap class_of g) q) (done refl)
 
-    module _ (d : ℕ) (q : y ≡ number.Is d) {B A : List ℕ} {x : Reply} (D : Tells (row_type m n (of_rows (collect_kind (letter_of c))) typed (row_read m d name)) B A x) where
+    module _ (d : ℕ) (q : y ≡ Some d) {B A : List ℕ} {x : Result FlatType Refused} (D : Tells (row_type m n (of_rows (collect_kind (letter_of c))) typed (row_read m d name)) B A x) where
       the_row : attribute_type m n of_members name t ≡ and_then (row_type m n (of_rows (collect_kind (letter_of c))) typed (row_read m d name)) (λ u. pure (wrap n (exactly (collect_kind (letter_of c))) u))
       the_row =
           on_class_lem ∙ class_some (pure (refused 11 n)) (of_class m n name (letter_of c)) (member_type t) y (p ∙ ap class_of g) d q
           ∙ row_then m n (of_rows (collect_kind (letter_of c))) (wrap n (exactly (collect_kind (letter_of c)))) (row_read m d name)
 
-      pub collect_early : {k l : ℕ} → x ≡ reply.No k l → Tells (attribute_type m n of_members name t) B A x
+      pub collect_early : {f : Refused} → x ≡ Err f → Tells (attribute_type m n of_members name t) B A (Err f)
       collect_early o = rw the_row (early (λ u. pure (wrap n (exactly (collect_kind (letter_of c))) u)) D o)
 
-      pub collect_done : {w : FlatType} {r : Reply} {k : ℕ} → x ≡ reply.Is w → k ≡ collect_code c → meaning r ≡ wrap n (letter_of k) (ty_of w) → Tells (attribute_type m n of_members name t) B A r
+      pub collect_done : {w : FlatType} {r : Result FlatType Refused} {k : ℕ} → x ≡ Ok w → k ≡ collect_code c → meaning r ≡ wrap n (letter_of k) (ty_of w) → Tells (attribute_type m n of_members name t) B A r
       collect_done {w} {k = k} o i h =
           let a : letter_of k ≡ exactly (collect_kind (letter_of c)) = ap letter_of i ∙ collect_letter c in
           rw the_row (after (λ u. pure (wrap n (exactly (collect_kind (letter_of c))) u)) D o (done (h ∙ ap (λ (l : Letter). wrap n l (ty_of w)) a)))

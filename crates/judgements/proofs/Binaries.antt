@@ -8,11 +8,13 @@ use Rattle.ocl.specs.Types.{Ty, Boolean, Integer, Real, join}
 use Rattle.ocl.specs.Model.{Schema}
 use Rattle.ocl.specs.Typing.{typed, common, both_below, scale_type, on_numbers, includes_type, including_type, union_type, binary_type}
 use Rattle.nodes.specs.Nodes.{binary_of}
-use Rattle.judgements.specs.declared.Reply.{Reply}
 use Rattle.judgements.specs.Replies.{meaning, Tells}
 use Rattle.judgements.proofs.Composition.{done}
+use Rattle.std.specs.Prelude.{Result}
+use Rattle.memory.specs.declared.refusals.Refused.{Refused}
+use Rattle.types.specs.declared.FlatType.{FlatType}
 
-module _ (m : Schema) (n k : ℕ) (t u : Ty) {B : List ℕ} {r : Reply} where
+module _ (m : Schema) (n k : ℕ) (t u : Ty) {B : List ℕ} {r : Result FlatType Refused} where
   pub equal_binary : k ≡ 13 → meaning r ≡ common n (join m.parent t u) (λ w. typed Boolean) → Tells (binary_type m n (binary_of k) t u) B B r
   unfolding binary_type binary_of
   equal_binary q h = rw q (done h)

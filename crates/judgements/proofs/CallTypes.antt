@@ -4,12 +4,10 @@ use mathlib.Core.Bool.{true, false}
 use mathlib.Core.Option.{none, some, none-ne-some}
 use mathlib.Core.List.{List}
 use Prim.Native.Nat.{ℕ}
-use Rattle.std.specs.Prelude.{if◌then◌else◌}
+use Rattle.std.specs.Prelude.{if◌then◌else◌, Option as Optional, Some, None}
 use Rattle.ocl.specs.Types.{any, boolean, integer, real, class, Ty, void, simple, around, Parents, simple_subtype, subtype}
 use Rattle.ocl.specs.Model.{Schema}
 use Rattle.ocl.specs.Typing.{typed, refused, on_class, call_type}
-use Rattle.types.specs.declared.ClassNumber.{ClassNumber}
-use Rattle.types.specs.declared.ClassNumber.TheVariants as number
 use Rattle.types.specs.Flat.{parents_in}
 use Rattle.types.specs.Parts.{simple_class, class_of, class_number}
 use Rattle.types.proofs.Members.{class_is}
@@ -27,7 +25,7 @@ module _ (m : Schema) (ps : List ℕ) (e : m.parent ≡ parents_in ps) (n c : �
   call_not (around l u) h = refl
 
   -- no class
-  pub call_other : (u : Ty) (x : ClassNumber) → class_number x ≡ class_of u → x ≡ number.Nothing → refused 11 n ≡ call_type m n c t u
+  pub call_other : (u : Ty) (x : Optional ℕ) → class_number x ≡ class_of u → x ≡ None → refused 11 n ≡ call_type m n c t u
   unfolding class_number
   call_other u x p q = call_not u (ap class_number (sym q) ∙ p)
 
@@ -35,7 +33,7 @@ module _ (m : Schema) (ps : List ℕ) (e : m.parent ≡ parents_in ps) (n c : �
   unfolding call_type on_class subtype
   call_by u d p = ap (call_type m n c t) (class_is u d p)
 
-  module _ (u : Ty) (d : ℕ) (x : ClassNumber) (p : class_number x ≡ class_of u) (q : x ≡ number.Is d) where
+  module _ (u : Ty) (d : ℕ) (x : Optional ℕ) (p : class_number x ≡ class_of u) (q : x ≡ Some d) where
     call_is : call_type m n c t u ≡ (if simple_subtype (parents_in ps) (class d) (class c) then typed t else refused 11 n)
     unfolding class_number
     call_is = call_by u d (ap class_number (sym q) ∙ p) ∙ ap (λ (f : Parents). if simple_subtype f (class d) (class c) then typed t else refused 11 n) e

@@ -9,10 +9,10 @@ use Rattle.ocl.specs.Typing.{Answer, typed, refused, Typed, Typing, pure, then_f
 use Rattle.ocl.specs.Marks.{Marks}
 use Rattle.types.specs.declared.FlatType.{FlatType}
 use Rattle.types.specs.Flat.{ty_of}
-use Rattle.judgements.specs.declared.Reply.{Reply}
-use Rattle.judgements.specs.declared.Reply.TheVariants as reply
 use Rattle.nodes.specs.Marks.{mark_word}
 use Rattle.judgements.specs.Replies.{meaning, write_marks, Tells}
+use Rattle.std.specs.Prelude.{Result, Ok, Err}
+use Rattle.memory.specs.declared.refusals.Refused.{Refused}
 
 pub write_append : (l : List ℕ) (a c : Marks) → write_marks l (a ++ c) ≡ write_marks (write_marks l a) c
 unfolding write_marks
@@ -35,21 +35,21 @@ unfolding and_then
 then_then x f g = then_for_lem x.answer x.marks f g
 
 -- a refusal ends what follows it
-pub early : {x : Typed} {B A : List ℕ} {r : Reply} {c p : ℕ} (k : Ty → Typed) → Tells x B A r → r ≡ reply.No c p → Tells (and_then x k) B A r
+pub early : {x : Typed} {B A : List ℕ} {r : Result FlatType Refused} {e : Refused} (k : Ty → Typed) → Tells x B A r → r ≡ Err e → Tells (and_then x k) B A (Err e)
 unfolding and_then then_for
-early k d q = let e = ap meaning (sym q) ∙ d.is in rw (← e) (record { is = ap meaning q; wrote = d.wrote })
+early k d q = let h = ap meaning (sym q) ∙ d.is in rw (← h) (record { is = refl; wrote = d.wrote })
 
 -- a type goes on to what follows it
-pub after : {x : Typed} {B A C : List ℕ} {r s : Reply} {t : FlatType} (k : Ty → Typed) → Tells x B A r → r ≡ reply.Is t → Tells (k (ty_of t)) A C s → Tells (and_then x k) B C s
+pub after : {x : Typed} {B A C : List ℕ} {r s : Result FlatType Refused} {t : FlatType} (k : Ty → Typed) → Tells x B A r → r ≡ Ok t → Tells (k (ty_of t)) A C s → Tells (and_then x k) B C s
 unfolding and_then then_for
 after {x} {B} {t = t} k d q y =
     let e = ap meaning (sym q) ∙ d.is in
     rw (← e) (record { is = y.is; wrote = y.wrote ∙ ap (λ (l : List ℕ). write_marks l (k (ty_of t)).marks) d.wrote ∙ sym (write_append B x.marks (k (ty_of t)).marks) })
 
 -- an answer that makes no mark
-pub done : {a : Answer} {B : List ℕ} {r : Reply} → meaning r ≡ a → Tells (pure a) B B r
+pub done : {a : Answer} {B : List ℕ} {r : Result FlatType Refused} → meaning r ≡ a → Tells (pure a) B B r
 unfolding write_marks
 done h = record { is = h; wrote = refl }
 
-pub as_form : {f g : Typing} {Γ : Env Ty} {B A : List ℕ} {r : Reply} → f ≡ g → Tells (g Γ) B A r → Tells (f Γ) B A r
+pub as_form : {f g : Typing} {Γ : Env Ty} {B A : List ℕ} {r : Result FlatType Refused} → f ≡ g → Tells (g Γ) B A r → Tells (f Γ) B A r
 as_form p d = rw p d

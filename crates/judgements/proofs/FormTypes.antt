@@ -6,17 +6,13 @@ use mathlib.Core.List.{List}
 use Prim.Native.Nat.{ℕ, zero, suc, ◌+◌, ◌-◌, ◌<◌, ◌≤◌}
 use native.Mathlib.Omega.{arith}
 use borrow.Author.Tests.{eq-eqb, ne_eqb, le-leb, lt-leb}
-use Rattle.std.specs.Prelude.{if◌then◌else◌}
+use Rattle.std.specs.Prelude.{if◌then◌else◌, Option as Optional, Some, None}
 use Rattle.reals.specs.Words.{number_in}
 use Rattle.ocl.specs.Types.{any, boolean, integer, real, class, Kind, set, sequence, bag, kind_code, same_kind, Letter, collection, exactly, Ty, void, simple, around, Boolean, Integer, Class, depth, Parents, simple_subtype, subtype, join}
 use Rattle.ocl.specs.Environment.{Env}
 use Rattle.ocl.specs.Model.{Schema, number_type}
 use Rattle.ocl.specs.Typing.{Answer, typed, refused, below, common, wrap, on_collection, on_kind, bound_type, leaf_type, cast_type, unary_type, both_below, includes_type, including_type, union_type, conditional_type}
 use Rattle.types.specs.declared.FlatType.{FlatType}
-use Rattle.types.specs.declared.Joined.{Joined}
-use Rattle.types.specs.declared.Joined.TheVariants as j
-use Rattle.types.specs.declared.ClassNumber.{ClassNumber}
-use Rattle.types.specs.declared.ClassNumber.TheVariants as number
 use Rattle.types.specs.Flat.{parents_in, letter_of, ty_of, joined_type}
 use Rattle.types.specs.Parts.{code_of, outer_code, member_type, simple_class, class_of, is_any, class_number}
 use Rattle.types.proofs.Members.{no_collection, is_collection, class_is}
@@ -63,14 +59,6 @@ module _ (n d : ℕ) (l : Letter) (t : Ty) (h : d ≡ depth t) where
   pub wrap_no : 2 < d → refused 13 n ≡ wrap n l t
   unfolding wrap
   wrap_no k = rw (← h, lt-leb d 2 k)
-
--- ---- two tests
-
-pub under_both : {a b x y : Bool} → x ≡ a → x ≡ true → y ≡ b → y ≡ (a && b)
-under_both h k g = rw (← h, k) g
-
-pub under_none : {a x : Bool} (b : Bool) → x ≡ a → x ≡ false → false ≡ (a && b)
-under_none b h k = rw (← h, k)
 
 -- ---- forms with no operand
 
@@ -138,14 +126,14 @@ module _ (m : Schema) (ps : List ℕ) (e : m.parent ≡ parents_in ps) (n : ℕ)
       both_no k = rw k at both_is
 
   -- the common type, and whatever it leads to
-  module _ (t u : Ty) (k : Ty → Answer) (x : Joined) (h : joined_type x ≡ join (parents_in ps) t u) where
+  module _ (t u : Ty) (k : Ty → Answer) (x : Optional FlatType) (h : joined_type x ≡ join (parents_in ps) t u) where
     pub common_of : {a : Answer} → a ≡ common n (joined_type x) k → a ≡ common n (join m.parent t u) k
     common_of p = rw (e, ← h) p
 
-    pub common_yes : {w : FlatType} {a : Answer} → x ≡ j.Is w → a ≡ k (ty_of w) → a ≡ common n (join m.parent t u) k
+    pub common_yes : {w : FlatType} {a : Answer} → x ≡ Some w → a ≡ k (ty_of w) → a ≡ common n (join m.parent t u) k
     common_yes q p = common_of (joined_yes n k x q p)
 
-    pub common_no : x ≡ j.Nothing → refused 10 n ≡ common n (join m.parent t u) k
+    pub common_no : x ≡ None → refused 10 n ≡ common n (join m.parent t u) k
     common_no q = common_of (joined_no n k x q)
 
   -- `if`
@@ -180,7 +168,7 @@ module _ (m : Schema) (ps : List ℕ) (e : m.parent ≡ parents_in ps) (n : ℕ)
     cast_not (around l t) h p = refl
 
     -- neither Any nor a class
-    pub cast_other : (t : Ty) (x : ClassNumber) → false ≡ is_any t → class_number x ≡ class_of t → x ≡ number.Nothing → refused 11 n ≡ cast_type m n c t
+    pub cast_other : (t : Ty) (x : Optional ℕ) → false ≡ is_any t → class_number x ≡ class_of t → x ≡ None → refused 11 n ≡ cast_type m n c t
     unfolding class_number
     cast_other t x h p q = cast_not t h (ap class_number (sym q) ∙ p)
 
@@ -188,7 +176,7 @@ module _ (m : Schema) (ps : List ℕ) (e : m.parent ≡ parents_in ps) (n : ℕ)
     unfolding cast_type subtype
     cast_by t d p = ap (cast_type m n c) (class_is t d p)
 
-    module _ (t : Ty) (d : ℕ) (x : ClassNumber) (p : class_number x ≡ class_of t) (q : x ≡ number.Is d) where
+    module _ (t : Ty) (d : ℕ) (x : Optional ℕ) (p : class_number x ≡ class_of t) (q : x ≡ Some d) where
       cast_is : cast_type m n c t ≡ (if simple_subtype (parents_in ps) (class d) (class c) || simple_subtype (parents_in ps) (class c) (class d) then typed (Class c) else refused 10 n)
       unfolding class_number
       cast_is = cast_by t d (ap class_number (sym q) ∙ p) ∙ ap (λ (f : Parents). if simple_subtype f (class d) (class c) || simple_subtype f (class c) (class d) then typed (Class c) else refused 10 n) e

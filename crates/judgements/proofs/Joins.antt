@@ -10,30 +10,29 @@ use Rattle.ocl.specs.Laws.{Small}
 use Rattle.ocl.specs.Typing.{Answer, refused, common}
 use Rattle.ocl.proofs.Subtyping.{subtyping, common_type}
 use Rattle.types.specs.declared.FlatType.{FlatType}
-use Rattle.types.specs.declared.Joined.{Joined}
-use Rattle.types.specs.declared.Joined.TheVariants as j
 use Rattle.types.specs.Flat.{ty_of, joined_type}
 use Rattle.judgements.specs.Replies.{join_more}
+use Rattle.std.specs.Prelude.{Option as Optional, Some, None}
 
 -- ---- a common type that the code found, or found not to be there
 
-module _ (n : ℕ) (k : Ty → Answer) (x : Joined) where
-  pub joined_yes : {w : FlatType} {a : Answer} → x ≡ j.Is w → a ≡ k (ty_of w) → a ≡ common n (joined_type x) k
+module _ (n : ℕ) (k : Ty → Answer) (x : Optional FlatType) where
+  pub joined_yes : {w : FlatType} {a : Answer} → x ≡ Some w → a ≡ k (ty_of w) → a ≡ common n (joined_type x) k
   unfolding common joined_type
   joined_yes q p = rw q p
 
-  pub joined_no : x ≡ j.Nothing → refused 10 n ≡ common n (joined_type x) k
+  pub joined_no : x ≡ None → refused 10 n ≡ common n (joined_type x) k
   unfolding common joined_type
   joined_no q = rw q
 
 -- ---- one more
 
-module _ (parent : Parents) (x : Joined) (t : Ty) where
-  pub more_none : x ≡ j.Nothing → joined_type x ≡ join_more parent (joined_type x) t
+module _ (parent : Parents) (x : Optional FlatType) (t : Ty) where
+  pub more_none : x ≡ None → joined_type x ≡ join_more parent (joined_type x) t
   unfolding join_more joined_type on_some
   more_none q = rw q
 
-  pub more_some : {s : FlatType} {o : Option Ty} → x ≡ j.Is s → o ≡ join parent (ty_of s) t → o ≡ join_more parent (joined_type x) t
+  pub more_some : {s : FlatType} {o : Option Ty} → x ≡ Some s → o ≡ join parent (ty_of s) t → o ≡ join_more parent (joined_type x) t
   unfolding join_more joined_type on_some
   more_some q p = rw q p
 

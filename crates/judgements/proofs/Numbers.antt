@@ -17,9 +17,11 @@ use Rattle.ocl.specs.Typing.{typed, scaled, on_numbers}
 use Rattle.types.specs.declared.FlatType.{FlatType}
 use Rattle.types.specs.Flat.{parents_in, ty_of}
 use Rattle.nodes.specs.Marks.{mark_word}
-use Rattle.judgements.specs.declared.Reply.TheVariants as reply
 use Rattle.judgements.specs.Replies.{write_marks, Tells}
 use Rattle.judgements.proofs.Composition.{done}
+use Rattle.std.specs.Prelude.{Ok, Err}
+use Rattle.memory.specs.Refusals.{at}
+use Rattle.memory.specs.declared.refusals.Refusal.TheVariants.{WrongPiece}
 
 -- ---- the type of a number
 
@@ -39,7 +41,7 @@ module _ (m : Schema) (ps : List ℕ) (e : m.parent ≡ parents_in ps) (n : ℕ)
   under_int : a ≡ (subtype (parents_in ps) t Integer && subtype (parents_in ps) u Integer)
   under_int = rw int at whole
 
-  pub by_integers : {B : List ℕ} {i : FlatType} {z : Ty} → a ≡ true → ty_of i ≡ z → z ≡ type integers → Tells (on_numbers m n type t u) B (set B n 0) (reply.Is i)
+  pub by_integers : {B : List ℕ} {i : FlatType} {z : Ty} → a ≡ true → ty_of i ≡ z → z ≡ type integers → Tells (on_numbers m n type t u) B (set B n 0) (Ok i)
   unfolding on_numbers scaled write_marks mark_word
   by_integers k q g = rw (e, ← under_int, k) (record { is = ap typed (q ∙ g); wrote = refl })
 
@@ -47,10 +49,10 @@ module _ (m : Schema) (ps : List ℕ) (e : m.parent ≡ parents_in ps) (n : ℕ)
     under_real : b ≡ (subtype (parents_in ps) t Real && subtype (parents_in ps) u Real)
     under_real = rw real at wide
 
-    pub by_reals : {B : List ℕ} {x : FlatType} {z : Ty} → b ≡ true → ty_of x ≡ z → z ≡ type reals → Tells (on_numbers m n type t u) B (set B n 128) (reply.Is x)
+    pub by_reals : {B : List ℕ} {x : FlatType} {z : Ty} → b ≡ true → ty_of x ≡ z → z ≡ type reals → Tells (on_numbers m n type t u) B (set B n 128) (Ok x)
     unfolding on_numbers scaled write_marks mark_word
     by_reals k q g = rw (e, ← under_int, no, ← under_real, k) (record { is = ap typed (q ∙ g); wrote = refl })
 
-    pub no_numbers : {B : List ℕ} → b ≡ false → Tells (on_numbers m n type t u) B B (reply.No 11 n)
+    pub no_numbers : {B : List ℕ} → b ≡ false → Tells (on_numbers m n type t u) B B (Err (at WrongPiece n))
     unfolding on_numbers
     no_numbers k = rw (e, ← under_int, no, ← under_real, k) (done refl)

@@ -1,5 +1,5 @@
 -- What the code's answers, environments, marks and tables stand for. Document 01, The forms and their typing.
-use Rattle.std.specs.Prelude.{◌≡◌, false, List, [], ◌∷◌, ℕ, get_or, set, take, drop}
+use Rattle.std.specs.Prelude.{◌≡◌, false, List, [], ◌∷◌, ℕ, get_or, set, take, drop, Result, Ok, Err}
 use Rattle.std.proofs.Math.Option.{Option, none, some}
 use Rattle.laws.specs.Choice.{on_some}
 use Rattle.std.specs.Prelude.{if◌then◌else◌}
@@ -15,13 +15,14 @@ use Rattle.types.specs.Flat.{ty_of, bare}
 use Rattle.nodes.specs.Classes.{HoldsClasses}
 use Rattle.nodes.specs.Marks.{mark_word}
 use Rattle.judgements.specs.declared.TypeEnv.{TypeEnv}
-use Rattle.judgements.specs.declared.Reply.{Reply}
-use Rattle.judgements.specs.declared.Reply.TheVariants as reply
+use Rattle.memory.specs.Refusals.{number}
+use Rattle.memory.specs.declared.refusals.Refused.{Refused}
+use Rattle.types.specs.declared.FlatType.{FlatType}
 
 -- a type, or a refusal's number and node
-abbrev pub meaning : Reply → Answer
-meaning (reply.Is t) = typed (ty_of t)
-meaning (reply.No c p) = refused c p
+abbrev pub meaning : Result FlatType Refused → Answer
+meaning (Ok t) = typed (ty_of t)
+meaning (Err r) = refused (number r.refusal) r.place
 
 -- ---- the common type of so many types, if there is one, and one more
 
@@ -41,7 +42,7 @@ write_marks l [] = l
 write_marks l (x ∷ m) = write_marks (set l x.0 (mark_word x.1)) m
 
 -- the answer is the definition's, and so are the marks that were written
-pub record Tells (x : Typed) (before after : List ℕ) (r : Reply) : Type 0 where
+pub record Tells (x : Typed) (before after : List ℕ) (r : Result FlatType Refused) : Type 0 where
   pub is : meaning r ≡ x.answer
   pub wrote : after ≡ write_marks before x.marks
 

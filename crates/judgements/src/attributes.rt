@@ -11,14 +11,14 @@ ghost use Rattle.nodes.specs.Marks.{mark_word};
 ghost use Rattle.judgements.specs.Replies.{Tells, ReadsRows};
 ghost use Rattle.judgements.specs.Single.{collect_code};
 
-use super::Reply;
 use super::forms::wrapped;
+use memory::refusals::{Refusal, Refused};
 use memory::words::wide;
+use types::FlatType;
 use types::letters::{BAG, SEQUENCE};
 use types::parts::{is_class, member_type, outer_code};
 use types::rows::row_read;
 use types::word::unpack;
-use types::{ClassNumber, FlatType, RowFound};
 
 // The type of the row with the name, the nearest declaration from class c upward, else 12. The row, and `more`, marks node n.
 fn row_type(
@@ -30,18 +30,18 @@ fn row_type(
     c: u64,
     more: u64,
     marks: &mut [u64],
-) -> Reply
+) -> Result<FlatType, Refused>
     requires { (rows ≤ most_rows) × (memory.rows_end ≤ length tables.now) × (n < most_nodes) × (most_nodes ≤ length marks.old) × (more ≤ memory.mark_sequence) }
     ensures { (m : Schema) → ReadsRows parents.now tables.now rows m → (mark : ℕ → Mark) → ((i : ℕ) → mark_word (mark i) ≡ more + i) → Tells (row_type m n mark typed (row_read m c name)) marks.old marks.new result }
 {
     let owners = &tables[memory::OWNERS..memory::NAMES];
     let names = &tables[memory::NAMES..memory::TYPES];
-    let RowFound::At(i) = row_read(parents, owners, names, rows, c, name) else {
-        return Reply::No(12, n as u64);
+    let Some(i) = row_read(parents, owners, names, rows, c, name) else {
+        return Err(Refusal::NoSuchMark.at(n as u64));
     };
     marks[n] = more + i;
     let at = wide(i);
-    Reply::Is(unpack(tables[memory::TYPES + at]))
+    Ok(unpack(tables[memory::TYPES + at]))
 }
 
 // `attr`: of a class type, else 11.
@@ -53,12 +53,12 @@ pub fn attribute_type(
     name: u64,
     t: FlatType,
     marks: &mut [u64],
-) -> Reply
+) -> Result<FlatType, Refused>
     requires { (rows ≤ most_rows) × (memory.rows_end ≤ length tables.now) × (n < most_nodes) × (most_nodes ≤ length marks.old) }
     ensures { (m : Schema) → ReadsRows parents.now tables.now rows m → Tells (attribute_type m n of_object name (ty_of t)) marks.old marks.new result }
 {
-    let ClassNumber::Is(c) = is_class(t) else {
-        return Reply::No(11, n as u64); // Void too is none
+    let Some(c) = is_class(t) else {
+        return Err(Refusal::WrongPiece.at(n as u64)); // Void too is none
     };
     row_type(parents, tables, rows, n, name, c, 0, marks)
 }
@@ -83,19 +83,19 @@ pub fn collect_type(
     name: u64,
     t: FlatType,
     marks: &mut [u64],
-) -> Reply
+) -> Result<FlatType, Refused>
     requires { (rows ≤ most_rows) × (memory.rows_end ≤ length tables.now) × (n < most_nodes) × (most_nodes ≤ length marks.old) }
     ensures { (m : Schema) → ReadsRows parents.now tables.now rows m → Tells (attribute_type m n of_members name (ty_of t)) marks.old marks.new result }
 {
     let code = outer_code(t);
     if code == 0 {
-        return Reply::No(11, n as u64);
+        return Err(Refusal::WrongPiece.at(n as u64));
     }
-    let ClassNumber::Is(c) = is_class(member_type(t)) else {
-        return Reply::No(11, n as u64);
+    let Some(c) = is_class(member_type(t)) else {
+        return Err(Refusal::WrongPiece.at(n as u64));
     };
     let kind = collect_code(code);
-    let found = row_type(
+    let u = row_type(
         parents,
         tables,
         rows,
@@ -104,9 +104,6 @@ pub fn collect_type(
         c,
         memory::MARK_SEQUENCE * (LAST - kind as u64),
         marks,
-    );
-    let Reply::Is(u) = found else {
-        return found;
-    };
+    )?;
     wrapped(n as u64, kind, u)
 }

@@ -10,9 +10,9 @@ ghost use Rattle.types.specs.Flat.{parents_in, base_type, ty_of};
 ghost use Rattle.nodes.specs.Nodes.{binary_of};
 ghost use Rattle.judgements.specs.Replies.{Tells};
 
-use super::Reply;
 use super::forms::{both_below, both_under, comparable, includes_type, including_type, union_type};
 use memory::codes;
+use memory::refusals::{Refusal, Refused};
 use types::parts::plain;
 use types::{Base, FlatType};
 
@@ -26,19 +26,19 @@ fn on_numbers(
     t: FlatType,
     u: FlatType,
     marks: &mut [u64],
-) -> Reply
+) -> Result<FlatType, Refused>
     requires { (n < most_nodes) × (most_nodes ≤ length marks.old) }
     ensures { (m : Schema) → m.parent ≡ parents_in parents.now → (type : Scale → Ty) → base_type i ≡ type integers → base_type x ≡ type in_reals → Tells (on_numbers m n type (ty_of t) (ty_of u)) marks.old marks.new result }
 {
     if both_under(parents, plain(Base::Int), t, u) {
         marks[n] = 0;
-        return Reply::Is(plain(i));
+        return Ok(plain(i));
     }
     if both_under(parents, plain(Base::Real), t, u) {
         marks[n] = memory::MARK_REALS;
-        return Reply::Is(plain(x));
+        return Ok(plain(x));
     }
-    Reply::No(11, n as u64)
+    Err(Refusal::WrongPiece.at(n as u64))
 }
 
 // Node n, whose two operands have types t and u.
@@ -49,7 +49,7 @@ pub fn binary_type(
     t: FlatType,
     u: FlatType,
     marks: &mut [u64],
-) -> Reply
+) -> Result<FlatType, Refused>
     requires { (code.equal ≤ form) × (n < most_nodes) × (most_nodes ≤ length marks.old) }
     ensures { (m : Schema) → m.parent ≡ parents_in parents.now → Tells (binary_type m n (binary_of form) (ty_of t) (ty_of u)) marks.old marks.new result }
 {

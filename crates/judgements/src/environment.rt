@@ -6,19 +6,20 @@ ghost use Rattle.ocl.specs.Typing.{bound_type};
 ghost use Rattle.types.specs.Flat.{ty_of};
 ghost use Rattle.judgements.specs.Replies.{meaning, env_of};
 
-use super::{Reply, TypeEnv};
+use super::TypeEnv;
+use memory::refusals::{Refusal, Refused};
 use types::parts::plain;
 use types::{Base, FlatType};
 
 // Variable i: its type where it is bound, else 9.
-pub fn bound(n: u64, i: usize, env: TypeEnv) -> Reply
+pub fn bound(n: u64, i: usize, env: TypeEnv) -> Result<FlatType, Refused>
     requires { i < 16 }
     ensures { meaning result ≡ bound_type n (env_of env i) }
 {
     if env.bound[i] {
-        return Reply::Is(env.types[i]);
+        return Ok(env.types[i]);
     }
-    Reply::No(9, n)
+    Err(Refusal::LooseEnd.at(n))
 }
 
 // The environment with variable i of type t.

@@ -17,10 +17,3 @@ pub struct TypeEnv {
     pub types: [FlatType; memory::VARIABLES],
     pub bound: [bool; memory::VARIABLES],
 }
-
-// A type; or a refusal's number and the number of its node.
-#[derive(Clone, Copy)]
-pub enum Reply {
-    Is(FlatType),
-    No(u64, u64),
-}

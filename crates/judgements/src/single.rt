@@ -8,10 +8,10 @@ ghost use Rattle.nodes.specs.Nodes.{word};
 ghost use Rattle.judgements.specs.Replies.{Tells, ReadsRows};
 ghost use Rattle.judgements.specs.Single.{single_type};
 
-use super::Reply;
 use super::attributes::{attribute_type, collect_type};
 use super::forms::{call_type, unary_type};
 use memory::codes::{CALL, IS_UNDEF, OF_MEMBERS, OF_OBJECT};
+use memory::refusals::Refused;
 use nodes::node_word;
 use types::parts::plain;
 use types::word::unpack;
@@ -27,12 +27,12 @@ pub fn single_type(
     form: u64,
     t: FlatType,
     marks: &mut [u64],
-) -> Reply
+) -> Result<FlatType, Refused>
     requires { (rows ≤ most_rows) × (memory.rows_end ≤ length tables.now) × (n < most_nodes) × (memory.nodes_end ≤ length nodes.now) × (most_nodes ≤ length marks.old) }
     ensures { (m : Schema) → ReadsRows parents.now tables.now rows m → Tells (single_type m n form (word nodes.now n) (ty_of t)) marks.old marks.new result }
 {
     match form {
-        IS_UNDEF => Reply::Is(plain(Base::Bool)),
+        IS_UNDEF => Ok(plain(Base::Bool)),
         OF_OBJECT => attribute_type(parents, tables, rows, n, node_word(nodes, n, 2), t, marks),
         OF_MEMBERS => collect_type(parents, tables, rows, n, node_word(nodes, n, 2), t, marks),
         CALL => call_type(

@@ -1,5 +1,5 @@
 -- A text byte by byte comes to what it comes to line by line. Assumes nothing.
-use Prim.Native.Nat.{ℕ, suc, ◌<◌}
+use Prim.Native.Nat.{ℕ, suc}
 use mathlib.Core.Path.{◌≡◌, refl, sym, ap, ◌∙◌}
 use mathlib.Core.Bool.{Bool, true, false, ◌&&◌}
 use mathlib.Core.Option.{Option, none, some}
@@ -18,26 +18,27 @@ use Rattle.sheet.specs.Lines.{a_number}
 use Rattle.sheet.specs.Calls.{Verdict, refusal_at}
 use Rattle.load.specs.Reading.{Run, Step, taken, refuse, step_window, step_length, step, read_last, on_step, read_lines, load_of}
 use Rattle.load.specs.Record.{Lengths}
+use Rattle.load.specs.Refusals.{number_of, refusal_of}
 use Rattle.load.specs.Reader.{Progress, refused, reading, line_at, on_line, byte_read, read_from, progress_of, Fits, fits_none, fits_some}
 
 -- ---- what a line's step keeps
 
 pub data Keeps (run : Option Run) : Step → Type 0 where
   keeps : {r : Run} → Fits (some r) → line_at (some r) ≡ suc (line_at run) → Keeps run (taken r)
-  shuts : {c : ℕ} → 0 < c → Keeps run (refuse c)
+  shuts : {c : ℕ} → number_of (refusal_of c) ≡ c → Keeps run (refuse c)
 
 window_keeps : (k : ℕ) → Keeps none (step_window k)
-unfolding step_window line_at
+unfolding step_window line_at refusal_of
 window_keeps k = go (leb 1 k && leb k 64) refl
   where
     go : (t : Bool) → (leb 1 k && leb k 64) ≡ t → Keeps none (if t then taken (record { window = k; lengths = [] }) else refuse 4)
     go true h =
         let b = and-true (leb 1 k) (leb k 64) h in
         keeps (fits_some {r = record { window = k; lengths = [] }} (record { narrow = leb-true 1 k b.0; wide = leb-true k 64 b.1; few = omega arith; short = each_nil })) refl
-    go false h = shuts {c = 4} (omega arith)
+    go false h = shuts {c = 4} refl
 
 length_keeps : (r : Run) (x : ℕ) → Lengths r.window r.lengths → Keeps (some r) (step_length r x)
-unfolding step_length line_at
+unfolding step_length line_at refusal_of
 length_keeps r x fit = go (leb x 1000 && ltb (length r.lengths) 1000000) refl
   where
     go : (t : Bool) → (leb x 1000 && ltb (length r.lengths) 1000000) ≡ t → Keeps (some r) (if t then taken (record { window = r.window; lengths = r.lengths ++ (x ∷ []) }) else refuse 4)
@@ -49,18 +50,18 @@ length_keeps r x fit = go (leb x 1000 && ltb (length r.lengths) 1000000) refl
           few = omega (arith, length_more r.lengths x, ltb-true (length r.lengths) 1000000 b.1);
           short = each_append fit.short (each-cons (leb-true x 1000 b.0) each_nil);
         })) (omega (arith, length_more r.lengths x))
-    go false h = shuts {c = 4} (omega arith)
+    go false h = shuts {c = 4} refl
 
 pub step_keeps : (run : Option Run) (o : Option ℕ) → Fits run → Keeps run (step run o)
-unfolding step
-step_keeps run none fit = shuts {c = 3} (omega arith)
+unfolding step refusal_of
+step_keeps run none fit = shuts {c = 3} refl
 step_keeps none (some k) fit = window_keeps k
 step_keeps (some r) (some x) (fits_some fit) = length_keeps r x fit
 
 -- ---- what holds of every progress
 
 pub data Sound : Progress → Type 0 where
-  is_refused : {c n : ℕ} → 0 < c → Sound (refused c n)
+  is_refused : {c n : ℕ} → number_of (refusal_of c) ≡ c → Sound (refused c n)
   is_reading : {run : Option Run} {l : Bytes} → Fits run → Sound (reading run l)
 
 pub line_sound : {run : Option Run} {s : Step} (n : ℕ) → Keeps run s → Sound (on_line s n)

@@ -3,29 +3,27 @@ use Prim.Native.Nat.{ℕ, ◌+◌, ◌<◌, ◌≤◌, min}
 use mathlib.Core.Path.{◌≡◌, refl, sym, ap, ◌∙◌}
 use mathlib.Core.Logic.{◌⊎◌, inl, inr}
 use mathlib.Core.Bool.{Bool, true, false, ◌&&◌, true≢false}
-use mathlib.Core.Option.{Option, none, some}
+use mathlib.Core.Option.{Option, none, some, none-ne-some, some-injective}
 use mathlib.Core.List.{List, [], ◌∷◌, ◌++◌}
 use native.Mathlib.Omega.{arith}
 use borrow.Author.Tests.{le-leb, lt-leb, eq-eqb, ne_eqb}
 use lib.Dec.{leb, ltb}
 use lib.ListN.{length}
+use Rattle.std.specs.Prelude.{Option as Maybe, None, Some, Result, Ok, Err, ok_or}
 use Rattle.std.specs.Prelude.{if◌then◌else◌}
 use Rattle.laws.proofs.Tests.{Any?, any_some}
 use Rattle.sheet.specs.Text.{Bytes}
 use Rattle.sheet.specs.Lines.{a_number}
-use Rattle.text.specs.Numbers.{cut_num}
-use Rattle.text.specs.declared.numbers.Num.TheVariants.{Bad as NoNum, Is}
-use Rattle.text.proofs.NumberLaws.{num_bad, num_is}
-use Rattle.load.specs.Reading.{Run, step_window, step_length, step}
-use Rattle.load.specs.Record.{window_of, Lengths, empty_window, pushed_of, Takes}
-use Rattle.load.specs.Tally.{with_ring}
-use Rattle.load.specs.Reader.{with_byte, line_from, line_of, refused, line_at, on_line, byte_read, window_for, state_of, empty_ring, after_line, reader_with, Fits, fits_none, fits_some, FirstLine, LengthLine, Ended, ByteRead}
-use Rattle.load.specs.declared.line.Line.{Line}
-use Rattle.load.specs.declared.line.Line.TheVariants.{Empty}
+use Rattle.load.specs.Reading.{Run, Step, taken, refuse, step_window, step_length, step}
+use Rattle.load.specs.Record.{window_of, Lengths, empty_window, Pushed, pushed_of, Takes}
+use Rattle.load.specs.Tally.{with_ring, Slides}
+use Rattle.load.specs.Refusals.{refusal_of}
+use Rattle.load.specs.Reader.{Line, with_byte, line_from, line_of, cut_of, line_at, on_line, byte_read, window_for, state_of, empty_ring, ringed, on_window, Fits, fits_none, fits_some, FirstLine, LengthLine, LineRead, Ended, ByteRead}
+use Rattle.load.specs.declared.refusal.Refusal.{Refusal}
+use Rattle.load.specs.declared.refusal.Refusal.TheVariants.{OutOfRange}
+use Rattle.load.specs.declared.refusal.Refused.{Refused}
 use Rattle.load.specs.declared.reader.Reader.{Reader}
-use Rattle.load.specs.declared.reader.State.{State}
 use Rattle.load.specs.declared.window.Window.{Window}
-use Rattle.load.specs.declared.window.Pushed.{Pushed}
 use Rattle.load.specs.declared.window.Tally.{Tally}
 use Rattle.load.proofs.Record.{fresh}
 use Rattle.load.proofs.Lines.{line_more}
@@ -33,10 +31,6 @@ use Rattle.load.proofs.Lines.{line_more}
 -- a number of the line that has begun
 abbrev pub LineNumber : Window → ℕ → Type 0
 LineNumber w n = (run : Option Run) → Fits run → w ≡ window_for run → n ≡ line_at run
-
--- a state with a new line
-abbrev pub new_line : Window → Reader
-new_line w = record { number = 0; place = 0; line = Empty; window = w }
 
 pub width_some : {r : Run} (w : Window) → Lengths r.window r.lengths → w ≡ window_for (some r) → 1 ≤ w.width
 unfolding window_for window_of
@@ -52,21 +46,11 @@ unfolding line_at window_for window_of empty_window
 number_length w z e none fits_none is = absurd (z (ap (λ (v : Window). v.width) is))
 number_length w z e (some r) (fits_some fit) is = let c : w.count ≡ length r.lengths = ap (λ (v : Window). v.count) is in omega (arith, fit.few)
 
--- ---- what is kept after a line
-
-after_refused : {s : State} {c n : ℕ} {t : Tally} (ring : List ℕ) → 0 < c → s ≡ after_line c n t → reader_with s ring ≡ state_of (refused c n)
-unfolding reader_with
-after_refused {s} {c} {n} {t} ring h e = rw (e, ne_eqb c 0 (λ z. omega arith))
-
-after_taken : {s : State} {t : Tally} (ring : List ℕ) → s ≡ after_line 0 0 t → reader_with s ring ≡ new_line (with_ring t ring)
-unfolding reader_with
-after_taken ring e = rw e
-
 -- ---- the first line
 
-pub first_refused : {n : ℕ} {s : State} {t : Tally} → (n ≡ 0) ⊎ (64 < n) → s ≡ after_line 4 1 t → FirstLine n (reader_with s empty_ring)
-unfolding step_window on_line
-first_refused {n} {s} {t} why e = record { is = λ k c. rw (shut k c why) (after_refused empty_ring (omega arith) e) }
+pub first_refused : {n : ℕ} → (n ≡ 0) ⊎ (64 < n) → FirstLine n (Err OutOfRange)
+unfolding step_window on_window refusal_of
+first_refused {n} why = record { is = λ k c. rw (shut k c why) }
   where
     shut : (k : ℕ) → n ≡ min k 1000000 → (n ≡ 0) ⊎ (64 < n) → (leb 1 k && leb k 64) ≡ false
     shut k c (inl z) = rw (lt-leb 1 k (omega arith))
@@ -75,20 +59,23 @@ first_refused {n} {s} {t} why e = record { is = λ k c. rw (shut k c why) (after
 abbrev fresh_tally : ℕ → Tally
 fresh_tally n = record { width = n; count = 0; sum = 0; largest = 0; first = 0 }
 
-pub first_taken : {n : ℕ} {s : State} → (n ≡ 0 → ⊥) → n ≤ 64 → s ≡ after_line 0 0 (fresh_tally n) → FirstLine n (reader_with s empty_ring)
-unfolding step_window on_line state_of line_of line_from window_for empty_ring empty_window
-first_taken {n} {s} z h e = record {
+abbrev ok_window : Window → Result Window Refusal
+ok_window w = Ok w
+
+pub first_taken : {n : ℕ} → (n ≡ 0 → ⊥) → n ≤ 64 → FirstLine n (ringed (Ok (fresh_tally n)) empty_ring)
+unfolding step_window on_window empty_ring empty_window
+first_taken {n} z h = record {
   is = λ k c.
       let q : k ≡ n = omega arith in
-      rw (q, le-leb 1 n (omega arith), le-leb n 64 h) (after_taken empty_ring e ∙ ap new_line ((fresh n).follows (omega arith)));
+      rw (q, le-leb 1 n (omega arith), le-leb n 64 h) (ap ok_window ((fresh n).follows (omega arith)));
 }
 
 -- ---- a length
 
 module _ {w : Window} {n : ℕ} where
-  pub length_over : {place : ℕ} {s : State} {t : Tally} (ring : List ℕ) → 1000 < n → LineNumber w place → s ≡ after_line 4 place t → LengthLine w n (reader_with s ring)
-  unfolding step_length on_line window_for
-  length_over {place} {s} {t} ring h at e = record { is = λ r x fit is c. rw (lt-leb x 1000 (omega arith), ← at (some r) (fits_some fit) is) (after_refused ring (omega arith) e) }
+  pub length_over : 1000 < n → LengthLine w n (Err OutOfRange)
+  unfolding step_length on_window refusal_of
+  length_over h = record { is = λ r x fit is c. rw (lt-leb x 1000 (omega arith)) }
 
   module _ {p : Pushed} (h : n ≤ 1000) (takes : Takes w n p) where
     pushed_taken : (k : ℕ) (xs : List ℕ) → Lengths k xs → w ≡ window_of k xs → (leb n 1000 && ltb (length xs) 1000000) ≡ p.taken
@@ -99,12 +86,12 @@ module _ {w : Window} {n : ℕ} where
         go true e = rw e
         go false e = rw e
 
-    pub length_many : {place : ℕ} {s : State} {t : Tally} (ring : List ℕ) → p.taken ≡ false → LineNumber w place → s ≡ after_line 4 place t → LengthLine w n (reader_with s ring)
-    unfolding step_length on_line window_for
-    length_many {place} {s} {t} ring left at e = record {
+    pub length_many : p.taken ≡ false → LengthLine w n (Err OutOfRange)
+    unfolding step_length on_window refusal_of
+    length_many left = record {
       is = λ r x fit is c.
           let q : x ≡ n = omega arith in
-          rw (q, pushed_taken r.window r.lengths fit is, left, ← at (some r) (fits_some fit) is) (after_refused ring (omega arith) e);
+          rw (q, pushed_taken r.window r.lengths fit is, left);
     }
 
     pushed_window : (k : ℕ) (xs : List ℕ) → Lengths k xs → w ≡ window_of k xs → p.taken ≡ true → p.window ≡ window_of k (xs ++ (n ∷ []))
@@ -115,13 +102,18 @@ module _ {w : Window} {n : ℕ} where
         go true h e = rw e
         go false h e = absurd (true≢false (sym h))
 
-    pub length_taken : {s : State} {t : Tally} {ring : List ℕ} → p.taken ≡ true → p.window ≡ with_ring t ring → s ≡ after_line 0 0 t → LengthLine w n (reader_with s ring)
-    unfolding step_length on_line state_of line_of line_from window_for
-    length_taken {s} {t} {ring} took same e = record {
+    pub length_taken : p.taken ≡ true → LengthLine w n (Ok p.window)
+    unfolding step_length on_window
+    length_taken took = record {
       is = λ r x fit is c.
           let q : x ≡ n = omega arith in
-          rw (q, pushed_taken r.window r.lengths fit is, took, ← pushed_window r.window r.lengths fit is took) (after_taken ring e ∙ ap new_line (sym same));
+          rw (q, pushed_taken r.window r.lengths fit is, took) (ap ok_window (pushed_window r.window r.lengths fit is took));
     }
+
+-- what `slide` answers
+pub length_slid : (t : Tally) (before after : List ℕ) {n : ℕ} → n ≤ 1000 → (next : Maybe Tally) → Slides t before n next after → LengthLine (with_ring t before) n (ringed (ok_or next OutOfRange) after)
+length_slid t before after h (Some u) s = length_taken h s refl
+length_slid t before after h None s = length_many h s.0 refl
 
 -- ---- any line
 
@@ -129,39 +121,78 @@ ring_empty : {t : Tally} {ring : List ℕ} → with_ring t ring ≡ window_for n
 unfolding window_for empty_window empty_ring
 ring_empty is = ap (λ (w : Window). w.recent) is
 
-module _ {line : Line} where
-  pub ended_bad : {w : Window} {place : ℕ} {s : State} {t : Tally} (ring : List ℕ) → ((l : Bytes) → line ≡ line_of l → NoNum ≡ cut_num (a_number l)) → LineNumber w place → s ≡ after_line 3 place t → Ended w line (reader_with s ring)
-  unfolding step on_line
-  ended_bad {w} {place} {s} {t} ring bad at e = record { is = λ run l fit is from. rw (num_bad (a_number l) (bad l from), ← at run fit is) (after_refused ring (omega arith) e) }
+abbrev refused_by : Refusal → Result Window Refusal
+refused_by e = Err e
 
-  module _ {n : ℕ} (num : (l : Bytes) → line ≡ line_of l → Is n ≡ cut_num (a_number l)) where
-    pub ended_first : {t : Tally} {ring : List ℕ} (s : State) → t.width ≡ 0 → FirstLine n (reader_with s empty_ring) → Ended (with_ring t ring) line (reader_with s ring)
-    unfolding step line_at
-    ended_first {t} {ring} s z first = record { is = λ run l fit is from. go run (a_number l) fit is (num_is (a_number l) (num l from)) }
+-- which number was read
+abbrev num : Result ℕ Refusal → Option ℕ
+num (Ok n) = some n
+num (Err e) = none
+
+cut_is : {n : ℕ} (o : Option ℕ) → Ok n ≡ cut_of o → Any? (λ m. n ≡ min m 1000000) o
+cut_is none e = absurd (none-ne-some _ (sym (ap num e)))
+cut_is (some m) e = any_some (some-injective _ _ (ap num e))
+
+module _ {line : Line} where
+  pub read_bad : {w : Window} {why : Refusal} → ((l : Bytes) → line ≡ line_of l → Err why ≡ cut_of (a_number l)) → LineRead w line (Err why)
+  unfolding step on_window refusal_of
+  read_bad {w} {why} bad = record { is = λ run l fit is from. go run (a_number l) (bad l from) }
+    where
+      why_of : Result ℕ Refusal → Refusal
+      why_of (Ok n) = why
+      why_of (Err e) = e
+
+      go : (run : Option Run) (o : Option ℕ) → Err why ≡ cut_of o → Err why ≡ on_window (step run o)
+      go run none e = ap refused_by (ap why_of e)
+      go run (some m) e = absurd (none-ne-some _ (ap num e))
+
+  module _ {n : ℕ} (read : (l : Bytes) → line ≡ line_of l → Ok n ≡ cut_of (a_number l)) where
+    pub read_first : {t : Tally} {ring : List ℕ} (r : Result Tally Refusal) → t.width ≡ 0 → FirstLine n (ringed r empty_ring) → LineRead (with_ring t ring) line (ringed r ring)
+    unfolding step
+    read_first {t} {ring} r z first = record { is = λ run l fit is from. go run (a_number l) fit is (cut_is (a_number l) (read l from)) }
       where
-        go : (run : Option Run) (o : Option ℕ) → Fits run → with_ring t ring ≡ window_for run → Any? (λ m. n ≡ min m 1000000) o → reader_with s ring ≡ state_of (on_line (step run o) (line_at run))
+        go : (run : Option Run) (o : Option ℕ) → Fits run → with_ring t ring ≡ window_for run → Any? (λ m. n ≡ min m 1000000) o → ringed r ring ≡ on_window (step run o)
         go none (some k) fits_none is (any_some c) = rw (ring_empty {t = t} is) (first.is k c)
         go (some r) (some k) (fits_some fit) is (any_some c) = absurd (omega (arith, width_some (with_ring t ring) fit is))
         go none none _ is x7 = elim x7 [ ]
         go (some r) none _ is x8 = elim x8 [ ]
 
-    pub ended_length : {w : Window} {s : Reader} → (w.width ≡ 0 → ⊥) → LengthLine w n s → Ended w line s
-    unfolding step line_at window_for empty_window
-    ended_length {w} {s} z line_taken = record { is = λ run l fit is from. go run (a_number l) fit is (num_is (a_number l) (num l from)) }
+    pub read_length : {w : Window} {r : Result Window Refusal} → (w.width ≡ 0 → ⊥) → LengthLine w n r → LineRead w line r
+    unfolding step window_for empty_window
+    read_length {w} {r} z line_taken = record { is = λ run l fit is from. go run (a_number l) fit is (cut_is (a_number l) (read l from)) }
       where
-        go : (run : Option Run) (o : Option ℕ) → Fits run → w ≡ window_for run → Any? (λ m. n ≡ min m 1000000) o → s ≡ state_of (on_line (step run o) (line_at run))
+        go : (run : Option Run) (o : Option ℕ) → Fits run → w ≡ window_for run → Any? (λ m. n ≡ min m 1000000) o → r ≡ on_window (step run o)
         go none (some k) fits_none is (any_some c) = absurd (z (ap (λ (v : Window). v.width) is))
         go (some r) (some k) (fits_some fit) is (any_some c) = line_taken.is r k fit is c
         go none none _ is x7 = elim x7 [ ]
         go (some r) none _ is x8 = elim x8 [ ]
 
+-- ---- the line has ended
+
+-- a reader with a new line, and a refusal at this line
+abbrev after_line : Result Window Refusal → ℕ → Result Reader Refused
+after_line (Ok w) n = Ok (record { line = Ok None; window = w })
+after_line (Err e) n = Err (record { why = e; place = n })
+
+line_after : (s : Step) (n : ℕ) → after_line (on_window s) n ≡ state_of (on_line s n)
+unfolding on_window on_line state_of line_of line_from window_for
+line_after (taken r) n = refl
+line_after (refuse c) n = refl
+
+module _ {w : Window} {line : Line} where
+  pub ended_taken : {v : Window} → LineRead w line (Ok v) → Ended w line (Ok (record { line = Ok None; window = v }))
+  ended_taken {v} read = record { is = λ run l fit is from. ap (λ r. after_line r (line_at run)) (read.is run l fit is from) ∙ line_after (step run (a_number l)) (line_at run) }
+
+  pub ended_refused : {why : Refusal} {place : ℕ} → LineRead w line (Err why) → LineNumber w place → Ended w line (Err (record { why = why; place = place }))
+  ended_refused {why} read at = record { is = λ run l fit is from. rw (at run fit is) (ap (λ r. after_line r (line_at run)) (read.is run l fit is from) ∙ line_after (step run (a_number l)) (line_at run)) }
+
 -- ---- any byte
 
 module _ {w : Window} {line : Line} {b : ℕ} where
-  pub byte_ends : {s : Reader} → b ≡ 10 → Ended w line s → ByteRead w line b s
+  pub byte_ends : {s : Result Reader Refused} → b ≡ 10 → Ended w line s → ByteRead w line b s
   unfolding byte_read
   byte_ends h ended = record { is = λ run l fit is from. rw (eq-eqb b 10 h) (ended.is run l fit is from) }
 
-  pub byte_more : {next : Line} → (b ≡ 10 → ⊥) → next ≡ with_byte line b → ByteRead w line b (record { number = 0; place = 0; line = next; window = w })
+  pub byte_more : {next : Line} → (b ≡ 10 → ⊥) → next ≡ with_byte line b → ByteRead w line b (Ok (record { line = next; window = w }))
   unfolding byte_read state_of line_from
   byte_more h e = record { is = λ run l fit is from. rw (ne_eqb b 10 h, ← line_more l (b ∷ []), is, e, from) }

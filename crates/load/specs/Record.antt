@@ -1,11 +1,11 @@
 -- Document 02, F-14: "The running record takes one length at a time". What it is after a list of lengths: each of its fields by the list.
 use Rattle.std.specs.Prelude.{ℕ, suc, ◌+◌, ◌-◌, ◌%◌, ◌≤◌, ◌≡◌, Bool, true, false, ◌&&◌, ◌||◌, List, [], ◌∷◌, ◌++◌, length, get_or, set, replicate, eqb, leb, ltb}
 use Rattle.std.proofs.Math.Option.{Option, none, some}
+use Rattle.std.specs.Prelude.{Option as Maybe, None, Some}
 use Rattle.std.specs.Prelude.{if◌then◌else◌}
 use Rattle.laws.specs.Lists.{Each}
 use Rattle.load.specs.Windows.{run_sum, Load, load}
 use Rattle.load.specs.declared.window.Window.{Window}
-use Rattle.load.specs.declared.window.Pushed.{Pushed}
 
 -- the lengths in a ring of 64, the length behind the first i at i % 64
 unfoldable pub written : ℕ → List ℕ → List ℕ → List ℕ
@@ -51,6 +51,11 @@ empty_window k = record { width = k; count = 0; recent = replicate 64 0; sum = 0
 pub record Fresh (k : ℕ) (w : Window) : Type 0 where
   pub is : w ≡ empty_window k
   pub follows : 1 ≤ k → w ≡ window_of k []
+
+-- a record that was handed a length, and whether it took it
+pub record Pushed : Type 0 where
+  pub taken : Bool
+  pub window : Window
 
 -- the record after one length more: none above 1,000 is taken, and none behind 1,000,000 others
 unfoldable pub pushed_of : ℕ → List ℕ → ℕ → Pushed
@@ -100,6 +105,11 @@ pushed_by w x =
 pub record Takes (w : Window) (x : ℕ) (r : Pushed) : Type 0 where
   pub is : r ≡ pushed_by w x
   pub follows : (k : ℕ) (xs : List ℕ) → Lengths k xs → w ≡ window_of k xs → r ≡ pushed_of k xs x
+
+-- the record with the length, or the old one where that was not taken
+abbrev pub pushed : Window → Maybe Window → Pushed
+pushed w (Some v) = record { taken = true; window = v }
+pushed w None = record { taken = false; window = w }
 
 -- the same of a record that is lent
 abbrev pub Pushes : Window → ℕ → Bool → Window → Type 0

@@ -4,4 +4,5 @@
 
 pub mod line; // a line of digits, byte by byte
 pub mod reader; // a text in pieces, and what is printed
+pub mod refusal; // why a text is refused
 pub mod window; // the running record

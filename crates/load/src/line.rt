@@ -2,65 +2,55 @@
 ghost use Rattle.std.specs.Prelude.{◌≡◌};
 ghost use Rattle.sheet.specs.Text.{Bytes};
 ghost use Rattle.sheet.specs.Lines.{a_number};
-ghost use Rattle.text.specs.Numbers.{cut_num};
-ghost use Rattle.load.specs.Reader.{first_byte, with_digit, with_byte, line_of, is_empty};
+ghost use Rattle.load.specs.Reader.{first_byte, with_digit, with_byte, line_of, is_empty, cut_of};
 
+use crate::refusal::Refusal;
 use memory::lines::DIGIT;
 use memory::words::at_most;
-use text::numbers::{NUMBER_CUT, Num, digit};
+use text::numbers::{NUMBER_CUT, digit};
 use text::words::byte_kind;
 
 // A line that has begun: no byte yet, a number, or what is no number. A number is cut at a million before it takes a further
 // digit.
-#[derive(Clone, Copy)]
-pub enum Line {
-    Empty,
-    Number(u64),
-    Bad,
-}
+pub type Line = Result<Option<u64>, Refusal>;
 
 // The line after its first byte.
 fn first_byte(b: u8) -> Line
     ensures { result ≡ first_byte b }
 {
     if byte_kind(b) != DIGIT {
-        return Line::Bad;
+        return Err(Refusal::Misspelt);
     }
-    Line::Number(digit(b))
+    Ok(Some(digit(b)))
 }
 
 // A number with one digit more; none may follow a leading zero.
 fn with_digit(n: u64, b: u8) -> Line
     ensures { result ≡ with_digit n b }
 {
-    if n == 0 {
-        return Line::Bad;
+    if n == 0 || byte_kind(b) != DIGIT {
+        return Err(Refusal::Misspelt);
     }
-    if byte_kind(b) != DIGIT {
-        return Line::Bad;
-    }
-    Line::Number(at_most(n, NUMBER_CUT) * 10 + digit(b))
+    Ok(Some(at_most(n, NUMBER_CUT) * 10 + digit(b)))
 }
 
 // The line after one byte more.
 pub fn with_byte(line: Line, b: u8) -> Line
     ensures { result ≡ with_byte line b }
 {
-    match line {
-        Line::Empty => first_byte(b),
-        Line::Number(n) => with_digit(n, b),
-        Line::Bad => Line::Bad,
+    match line? {
+        None => first_byte(b),
+        Some(n) => with_digit(n, b),
     }
 }
 
 // The number that the line is.
-pub fn value(line: Line) -> Num
-    ensures { (l : Bytes) → line ≡ line_of l → result ≡ cut_num (a_number l) }
+pub fn value(line: Line) -> Result<u64, Refusal>
+    ensures { (l : Bytes) → line ≡ line_of l → result ≡ cut_of (a_number l) }
 {
-    match line {
-        Line::Number(n) => Num::Is(at_most(n, NUMBER_CUT)),
-        Line::Empty => Num::Bad,
-        Line::Bad => Num::Bad,
+    match line? {
+        None => Err(Refusal::Misspelt),
+        Some(n) => Ok(at_most(n, NUMBER_CUT)),
     }
 }
 
@@ -68,9 +58,5 @@ pub fn value(line: Line) -> Num
 pub fn is_empty(line: Line) -> bool
     ensures { result ≡ is_empty line }
 {
-    match line {
-        Line::Empty => true,
-        Line::Number(n) => false,
-        Line::Bad => false,
-    }
+    matches!(line, Ok(None))
 }

@@ -3,12 +3,13 @@
 #![tactic(auto)]
 
 use load::reader::{Reader, feed, put_answer, start};
+use load::refusal::Refused;
 use std::fs::File;
 use std::io::Read;
 use std::rt::Files;
 use std::{env, io};
 
-fn print_answer(rt: &impl Print, s: Reader, name: &str) -> io::Result<()> {
+fn print_answer(rt: &impl Print, s: Result<Reader, Refused>, name: &str) -> io::Result<()> {
     let mut out: [u8; 64] = [0; 64];
     let end = put_answer(s, &mut out);
     println!(rt; "{name}")?;
@@ -18,13 +19,13 @@ fn print_answer(rt: &impl Print, s: Reader, name: &str) -> io::Result<()> {
 // A proved loop has to end, so that its turns are counted; no run uses them up.
 fn print_input<R: Read>(rt: &impl Print, input: &mut R, name: &str) -> io::Result<()> {
     let mut piece: [u8; 7] = [0; 7];
-    let mut s = start();
+    let mut s = Ok(start());
     for _ in 0..u64::MAX {
         let n = input.read(&mut piece)?;
-        s = feed(s, &piece[..n]);
         if n == 0 {
             return print_answer(rt, s, name);
         }
+        s = feed(s, &piece[..n]);
     }
     Ok(())
 }

@@ -9,7 +9,7 @@ use native.Mathlib.Decide.{dec_lt}
 use native.Mathlib.Numerals.{add-one}
 use lib.ListN.{length, get_or, take, drop, set, length-append}
 use lib.Seq.{length-take-le, get_or-take, get_or-set_same, get_or-set_other, ext_get_or}
-use Rattle.std.specs.Prelude.{if◌then◌else◌}
+use Rattle.std.specs.Prelude.{if◌then◌else◌, Option as Optional, Some, None}
 use Rattle.ocl.specs.Types.{Ty, void, simple, around, any, boolean, integer, real, class}
 use Rattle.ocl.specs.Model.{Model, is_a}
 use Rattle.sheet.specs.Text.{Bytes}
@@ -23,8 +23,6 @@ use Rattle.tables.specs.Layout.{Fine}
 use Rattle.tables.proofs.Tables.{kept_then}
 use Rattle.rules.specs.Accepted.{Accepted, KnownTyped}
 use Rattle.rules.specs.Width.{width}
-use Rattle.report.specs.declared.Reported.{Reported}
-use Rattle.report.specs.declared.Reported.TheVariants as reported
 use Rattle.report.specs.Bound.{objects_of, line_width, lines_bound, rules_bound}
 use Rattle.report.specs.Passes.{lines_from, RoomForAll}
 use Rattle.report.specs.Reports.{report_on, SaysReport, written, too_long, Reports}
@@ -127,16 +125,16 @@ room_to_count k =
 
 -- ---- the two slices
 
-laid_written : {v : Verdict} {n : ℕ} (laid words : List ℕ) → SaysReport (reported.Written n) v → board_after v laid words ≡ laid ++ drop 8192 words
+laid_written : {v : Verdict} {n : ℕ} (laid words : List ℕ) → SaysReport (Some n) v → board_after v laid words ≡ laid ++ drop 8192 words
 unfolding board_after answer
 laid_written laid words (written b e) = refl
 
-laid_short : {v : Verdict} (laid words : List ℕ) → SaysReport reported.Short v → board_after v laid words ≡ words
+laid_short : {v : Verdict} (laid words : List ℕ) → SaysReport None v → board_after v laid words ≡ words
 unfolding board_after refusal refusal_at
 laid_short laid words too_long = refl
 
-module _ {st : Counts} {w0 w1 before w2 : List ℕ} {out now : Bytes} {r : Reported} (told : Reports report_on st w0 w1 before w2 out now r) where
-  pub made_short : {words : List ℕ} → r ≡ reported.Short → MakesBoard st w0 w1 before w2 out now words words reported.Short
+module _ {st : Counts} {w0 w1 before w2 : List ℕ} {out now : Bytes} {r : Optional ℕ} (told : Reports report_on st w0 w1 before w2 out now r) where
+  pub made_short : {words : List ℕ} → r ≡ None → MakesBoard st w0 w1 before w2 out now words words None
   made_short {words} e = record {
     is = λ s ts a t. rw e at (told.is s ts a t);
     output = told.output;
@@ -144,8 +142,8 @@ module _ {st : Counts} {w0 w1 before w2 : List ℕ} {out now : Bytes} {r : Repor
     kept = told.kept;
   }
 
-  pub made_written : {n : ℕ} {v2 ends words board : List ℕ} → r ≡ reported.Written n → EndsOfRules st w0 w1 w2 v2 ends → ((x1 : List ℕ) → StoresBoard st w0 x1 ends words board)
-      → MakesBoard st w0 w1 before v2 out now words board (reported.Written n)
+  pub made_written : {n : ℕ} {v2 ends words board : List ℕ} → r ≡ Some n → EndsOfRules st w0 w1 w2 v2 ends → ((x1 : List ℕ) → StoresBoard st w0 x1 ends words board)
+      → MakesBoard st w0 w1 before v2 out now words board (Some n)
   unfolding made
   made_written {words = words} e h k = record {
     is = λ s ts a t. rw e at (told.is s ts a t);

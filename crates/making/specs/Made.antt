@@ -1,5 +1,5 @@
 -- What the code promises that makes a running board of the accepted sheet in the words.
-use Rattle.std.specs.Prelude.{◌≡◌, List, ℕ, length, take}
+use Rattle.std.specs.Prelude.{◌≡◌, List, ℕ, length, take, Option as Optional}
 use Rattle.ocl.specs.Types.{Ty}
 use Rattle.sheet.specs.Text.{Bytes}
 use Rattle.sheet.specs.Sheet.{Sheet}
@@ -9,7 +9,6 @@ use Rattle.board.specs.Calls.{board_after}
 use Rattle.tables.specs.declared.Counts.{Counts}
 use Rattle.tables.specs.Layout.{Kept}
 use Rattle.rules.specs.Accepted.{Accepted, TypesIn}
-use Rattle.report.specs.declared.Reported.{Reported}
 use Rattle.report.specs.Reports.{report_on, SaysReport}
 use Rattle.board_words.specs.Layout.{ends_from, board_words}
 
@@ -19,7 +18,7 @@ pub record EndsOfRules (st : Counts) (w0 w1 before after ends : List ℕ) : Type
   pub kept : Kept before after
 
 -- the verdict bytes were `out` and are `now`, the board words were `words` and are `board`; all verdicts are the report's lines
-pub record MakesBoard (st : Counts) (w0 w1 before after : List ℕ) (out now : Bytes) (words board : List ℕ) (r : Reported) : Type 0 where
+pub record MakesBoard (st : Counts) (w0 w1 before after : List ℕ) (out now : Bytes) (words board : List ℕ) (r : Optional ℕ) : Type 0 where
   pub is : (s : Sheet) (ts : List Ty) → Accepted st w0 w1 s ts → TypesIn before ts → SaysReport r (report_on s (length out))
   pub output : (s : Sheet) (ts : List Ty) → Accepted st w0 w1 s ts → TypesIn before ts → now ≡ output_after (report_on s (length out)) out
   pub laid : (s : Sheet) (ts : List Ty) → Accepted st w0 w1 s ts → TypesIn before ts → board ≡ board_after (report_on s (length out)) (board_words (made s)) words

@@ -13,7 +13,7 @@ ghost use Rattle.making.specs.Made.{EndsOfRules, MakesBoard};
 use board_words::store_board;
 use memory::words::wide;
 use report::passes::object_lines;
-use report::{Reported, report_sheet};
+use report::report_sheet;
 use tables::Counts;
 
 // Puts into `ends` where the lines of each rule end. They are counted once more, each formed in the bytes of `line`.
@@ -22,13 +22,10 @@ fn rule_ends(w0: &[u64], st: Counts, w1: &[u64], w2: &mut [u64], line: &mut [u8]
     requires room_for_all { RoomForAll false st w0.now w1.now false (length line.old) × Fine st × (most_rules ≤ length ends.old) }
     ensures { EndsOfRules st w0.now w1.now w2.old w2.new ends.new }
 {
-    let rules = wide(st.rules);
-    let mut total: usize = 0;
-    let mut r: usize = 0;
-    while r < rules {
+    let mut total = 0;
+    for r in 0..wide(st.rules) {
         total = object_lines(w0, st, w1, w2, r, line, total, false, false);
         ends[r] = total as u64;
-        r += 1;
     }
 }
 
@@ -40,19 +37,15 @@ pub fn make_board(
     w2: &mut [u64],
     out: &mut [u8],
     words: &mut [u64],
-) -> Reported
+) -> Option<usize>
     requires least_words_in_bounds { (least_words ≤ length w0.now) × (least_words ≤ length w1.now) × (least_words ≤ length w2.old) × (least_board ≤ length words.old) }
     requires known_typed { KnownTyped st w0.now w1.now w2.old × (least_output ≤ length out.old) }
     ensures { MakesBoard st w0.now w1.now w2.old w2.new out.old out.new words.old words.new result }
 {
-    match report_sheet(w0, st, w1, w2, out) {
-        Reported::Short => Reported::Short,
-        Reported::Written(n) => {
-            let mut line = [0u8; memory::LEAST_OUTPUT];
-            let mut ends = [0u64; memory::MOST_RULES as usize];
-            rule_ends(w0, st, w1, w2, &mut line, &mut ends);
-            store_board(w0, st, &ends, words);
-            Reported::Written(n)
-        }
-    }
+    let n = report_sheet(w0, st, w1, w2, out)?;
+    let mut line = [0u8; memory::LEAST_OUTPUT];
+    let mut ends = [0u64; memory::MOST_RULES as usize];
+    rule_ends(w0, st, w1, w2, &mut line, &mut ends);
+    store_board(w0, st, &ends, words);
+    Some(n)
 }

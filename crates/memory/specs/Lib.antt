@@ -1,3 +1,4 @@
 pub mod Map
 pub mod Codes
 pub mod Lines
+pub mod Refusals

@@ -6,6 +6,7 @@
 
 pub mod codes; // a form's code
 pub mod lines; // what a line begins with, its block, and what is open
+pub mod refusals; // why something is refused, and where
 pub mod words; // words as numbers of places, and the larger and the smaller of two
 
 // ---- how many of each a sheet may have

@@ -13,20 +13,14 @@ pub fn long(n: usize) -> u64
     n as u64
 }
 
-pub fn of_byte(b: u8) -> u64
-    ensures { result ≡ b }
-{
-    b as u64
-}
-
 pub fn larger(a: u64, b: u64) -> u64
     ensures { result ≡ max a b }
 {
-    if a < b { b } else { a }
+    a.max(b)
 }
 
 pub fn at_most(n: u64, bound: u64) -> u64
     ensures { result ≡ min n bound }
 {
-    if n < bound { n } else { bound }
+    n.min(bound)
 }

@@ -9,9 +9,10 @@ use native.Mathlib.Numerals.{add-one}
 use borrow.Author.Tests.{lt-leb, le-leb}
 use lib.Dec.{leb}
 use lib.ListN.{length, get_or, take, set, length-set, length-take}
-use lib.Seq.{get_or-set_same, get_or-set_other, take-add}
+use lib.Seq.{get_or-set_same, get_or-set_other, get_or-take, length-take-le, take-add}
+use Rattle.std.specs.List.Sorted.{IsNonDecreasing}
 use Rattle.sheet.specs.Text.{Bytes}
-use Rattle.moves.specs.Joined.{joined, staying, arriving, replaced, EndsAt, start_in, Rising, staying_size, Standing, Told, they_stand, none_stand}
+use Rattle.moves.specs.Joined.{joined, staying, arriving, replaced, EndsAt, start_in, Rising, staying_size, Standing, Told, Stand, they_stand, none_stand}
 use Rattle.moves.specs.Moves.{part, Places, fits, too_long}
 use Rattle.moves.proofs.JoinedLaws.{joined_length, joined_less, replaced_length, start_next, start_at_lem, piece_at, staying_at, rising}
 
@@ -72,32 +73,26 @@ module _ {ends fresh : List ℕ} {n : ℕ} {t : ℕ → Bool} {room : ℕ} {befo
 
 -- ---- words that can be ends
 
--- the first r can: `last` is the last of them
-pub record StandTo (ends : List ℕ) (n r last : ℕ) : Type 0 where
-  pub last_is : last ≡ start_in ends r
-  pub rises : Rising ends r
-  pub within : r ≤ n
+module _ {ends : List ℕ} {n : ℕ} (room : n ≤ length ends) where
+  pub rises : IsNonDecreasing (take n ends) → Rising ends n
+  unfolding start_in
+  rises s = record { at = by }
+    where
+      by : (r : ℕ) → r < n → start_in ends r ≤ get_or ends r 0
+      by zero h = omega arith
+      by (suc r) h =
+          omega (arith, s r (suc r) 0 (omega arith) (omega (arith, length-take-le n ends room)), start_next ends r, get_or-take n ends r 0 (omega arith), get_or-take n ends (suc r) 0 h)
+
+  -- a word that is below the one in front of it
+  pub falls : (out : Bytes) → (k : ℕ) × (k + 1 < length (take n ends)) × ((d : ℕ) → get_or (take n ends) (k + 1) d < get_or (take n ends) k d) → Told ends out n false
+  falls out w = none_stand (λ f s. by w.0 (omega (arith, length-take-le n ends room, w.1)) (w.2 0) f s)
+    where
+      by : (k : ℕ) → k + 1 < n → get_or (take n ends) (k + 1) 0 < get_or (take n ends) k 0 → (f : ℕ → Bytes) → Stand ends out f n → ⊥
+      by k h l f s =
+          let e = add-one k in
+          omega (arith, (rising s.ended).at (suc k) (omega arith), start_next ends k, get_or-take n ends k 0 (omega arith), get_or-take n ends (suc k) 0 (omega arith), rw e at l)
 
 module _ {ends : List ℕ} {n : ℕ} where
-  pub stand_none : StandTo ends n 0 0
-  unfolding start_in
-  stand_none = record { last_is = refl; rises = record { at = λ r h. absurd (omega arith) }; within = omega arith }
-
-  module _ {r last : ℕ} (so : StandTo ends n r last) (h : r < n) where
-    pub falls : (out : Bytes) → get_or ends r 0 < last → Told ends out n false
-    falls out l = none_stand (λ f s. omega (arith, (rising s.ended).at r h, so.last_is))
-
-    pub stand_next : last ≤ get_or ends r 0 → StandTo ends n (r + 1) (get_or ends r 0)
-    stand_next l = record {
-      last_is = rw (add-one r) (sym (start_next ends r));
-      rises = record { at = λ i j. by i (dec_lt i r) (omega arith) };
-      within = omega arith;
-    }
-      where
-        by : (i : ℕ) → Dec (i < r) → i ≤ r → start_in ends i ≤ get_or ends i 0
-        by i (yes z) q = so.rises.at i z
-        by i (no z) q = let w : i ≡ r = omega arith in rw w (omega (arith, so.last_is))
-
   -- the pieces are what stands between the ends
   module _ (out : Bytes) (rises : Rising ends n) (within : start_in ends n ≤ length out) where
     abbrev piece : ℕ → Bytes
@@ -131,12 +126,9 @@ module _ {ends : List ℕ} {n : ℕ} where
       };
     }
 
-  pub told_end : {r last : ℕ} → StandTo ends n r last → n ≤ r → (out : Bytes) {size : ℕ} → size ≡ last → Told ends out n (leb size (length out))
-  told_end {r} {last} so h out {size} e = by (dec_lt (length out) size)
+  pub told_end : Rising ends n → (out : Bytes) {size : ℕ} → size ≡ start_in ends n → Told ends out n (leb size (length out))
+  told_end rises out {size} e = by (dec_lt (length out) size)
     where
-      z : r ≡ n
-      z = omega (arith, so.within)
-
       by : Dec (length out < size) → Told ends out n (leb size (length out))
-      by (yes k) = rw (lt-leb size (length out) k) (none_stand (λ f s. omega (arith, start_at_lem s.ended n (omega arith), s.within, so.last_is, ap (start_in ends) z)))
-      by (no k) = rw (le-leb size (length out) (omega arith)) (they_stand (pieces_stand out (rw z at so.rises) (omega (arith, so.last_is, ap (start_in ends) z))))
+      by (yes k) = rw (lt-leb size (length out) k) (none_stand (λ f s. omega (arith, start_at_lem s.ended n (omega arith), s.within)))
+      by (no k) = rw (le-leb size (length out) (omega arith)) (they_stand (pieces_stand out rises (omega arith)))

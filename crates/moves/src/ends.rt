@@ -42,15 +42,5 @@ pub fn can_stand(ends: &[u64], n: usize, out: &[u8]) -> bool
     requires { n ≤ length ends.now }
     ensures { Told ends.now out.now n result }
 {
-    let mut last: u64 = 0;
-    let mut r: usize = 0;
-    while r < n {
-        let end = ends[r];
-        if end < last {
-            return false;
-        }
-        last = end;
-        r += 1;
-    }
-    wide(last) <= out.len()
+    ends[..n].is_sorted() && start_of(ends, n) <= out.len()
 }

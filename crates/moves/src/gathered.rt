@@ -14,11 +14,9 @@ pub fn gather(ends: &[u64], n: usize, new: u64, out: &mut [u8])
     ensures { Gathers ends.now n (bit new) out.old out.new }
 {
     let mut at: usize = 0;
-    let mut r: usize = 0;
-    while r < n {
+    for r in 0..n {
         let size = staying_size(ends, r, new);
         shift_left(out, start_of(ends, r), at, size);
         at += size;
-        r += 1;
     }
 }

@@ -21,19 +21,14 @@ pub fn place(
     ensures { Places ends.now fresh.now n (bit new) room placed.old placed.new result }
 {
     let mut total: usize = 0;
-    let mut r: usize = 0;
-    while r < n {
+    for r in 0..n {
         let stays = staying_size(ends, r, new);
         let arrives = piece_size(fresh, r);
-        if room - total < stays {
-            return false;
-        }
-        if room - total - stays < arrives {
+        if room - total < stays || room - total - stays < arrives {
             return false;
         }
         total = total + stays + arrives;
         placed[r] = total as u64;
-        r += 1;
     }
     true
 }

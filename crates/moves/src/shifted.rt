@@ -8,21 +8,13 @@ pub fn shift_left(out: &mut [u8], from: usize, to: usize, n: usize)
     requires { (to ≤ from) × (from + n ≤ length out.old) }
     ensures { out.new ≡ put_bytes to (part from n out.old) out.old }
 {
-    let mut i: usize = 0;
-    while i < n {
-        out[to + i] = out[from + i];
-        i += 1;
-    }
+    out.copy_within(from..from + n, to);
 }
 
-// The same where `to` does not come before `from`: the last byte moves first.
+// The same where `to` does not come before `from`.
 pub fn shift_right(out: &mut [u8], from: usize, to: usize, n: usize)
     requires { (from ≤ to) × (to + n ≤ length out.old) }
     ensures { out.new ≡ put_bytes to (part from n out.old) out.old }
 {
-    let mut i: usize = n;
-    while 0 < i {
-        i -= 1;
-        out[to + i] = out[from + i];
-    }
+    out.copy_within(from..from + n, to);
 }

@@ -1,6 +1,7 @@
 -- What a form's code says. Assumes nothing.
 use mathlib.Core.Path.{◌≡◌, refl, ◌∙◌}
 use mathlib.Core.Bool.{true, false, not}
+use mathlib.Core.Logic.{◌⊎◌, inl, inr}
 use Prim.Native.Nat.{ℕ, ◌<◌, ◌≤◌}
 use native.Mathlib.Omega.{arith}
 use native.Mathlib.Decide.{dec_lt}
@@ -40,17 +41,14 @@ module _ (form : ℕ) where
   unfolding late_count
   three_late e = (rw e, omega arith)
 
-  pub two_late : form ≡ 35 → (2 ≡ late_count form) × (2 ≤ 4)
+  pub two_late : (form ≡ 35) ⊎ (form ≡ 37) → (2 ≡ late_count form) × (2 ≤ 4)
   unfolding late_count
-  two_late e = (rw e, omega arith)
+  two_late (inl e) = (rw e, omega arith)
+  two_late (inr e) = (rw e, omega arith)
 
-  pub over_late : form ≡ 37 → (2 ≡ late_count form) × (2 ≤ 4)
+  pub one_late : (form ≡ 31 → ⊥) → ((form ≡ 35) ⊎ (form ≡ 37) → ⊥) → (1 ≡ late_count form) × (1 ≤ 4)
   unfolding late_count
-  over_late e = (rw e, omega arith)
-
-  pub one_late : (form ≡ 31 → ⊥) → (form ≡ 35 → ⊥) → (form ≡ 37 → ⊥) → (1 ≡ late_count form) × (1 ≤ 4)
-  unfolding late_count
-  one_late a b c = (rw (ne_eqb form 31 a, ne_eqb form 35 b, ne_eqb form 37 c), omega arith)
+  one_late a b = (rw (ne_eqb form 31 a, ne_eqb form 35 (λ e. b (inl e)), ne_eqb form 37 (λ e. b (inr e))), omega arith)
 
   module _ (c : ℕ) where
     pub no_form : 37 < form → (0 ≡ operand_count form c) × (0 ≤ 4)
@@ -86,22 +84,22 @@ module _ (form : ℕ) where
 
   -- ---- bodies
 
-  pub binds_let : form ≡ 32 → true ≡ binds form
+  pub binds_one : (form ≡ 32) ⊎ (form ≡ 35) → true ≡ binds form
   unfolding binds
-  binds_let e = rw e
+  binds_one (inl e) = rw e
+  binds_one (inr e) = rw e
 
-  pub binds_iter : form ≡ 35 → true ≡ binds form
+  pub binds_quantified : 25 ≤ form → form < 27 → true ≡ binds form
   unfolding binds
-  binds_iter e = rw e
+  binds_quantified l h = rw (ne_eqb form 32 (λ e. omega arith), ne_eqb form 35 (λ e. omega arith), le-ltb form 25 l, lt-ltb form 27 h)
 
-  module _ (a : form ≡ 32 → ⊥) (b : form ≡ 35 → ⊥) where
-    pub binds_early : form < 25 → false ≡ binds form
-    unfolding binds
-    binds_early h = rw (ne_eqb form 32 a, ne_eqb form 35 b, lt-ltb form 25 h)
+  pub binds_early : form < 25 → false ≡ binds form
+  unfolding binds
+  binds_early h = rw (ne_eqb form 32 (λ e. omega arith), ne_eqb form 35 (λ e. omega arith), lt-ltb form 25 h)
 
-    pub binds_range : 25 ≤ form → ltb form 27 ≡ binds form
-    unfolding binds
-    binds_range h = rw (ne_eqb form 32 a, ne_eqb form 35 b, le-ltb form 25 h)
+  pub binds_none : ((form ≡ 32) ⊎ (form ≡ 35) → ⊥) → 27 ≤ form → false ≡ binds form
+  unfolding binds
+  binds_none a h = rw (ne_eqb form 32 (λ e. a (inl e)), ne_eqb form 35 (λ e. a (inr e)), le-ltb form 25 (omega arith), le-ltb form 27 h)
 
   pub body_third : form ≡ 35 → (3 ≡ body_operand form) × (3 < 8)
   unfolding body_operand
@@ -111,7 +109,7 @@ module _ (form : ℕ) where
   unfolding body_operand
   body_second e = (rw (ne_eqb form 35 e), omega arith)
 
-  pub enters_let : (u : Ty) → form ≡ 32 → true ≡ enters form u
+  pub enters_let : (u : Ty) → form ≡ 32 → eqb form 32 ≡ enters form u
   unfolding enters
   enters_let u e = rw e
 
@@ -140,14 +138,17 @@ module _ (form : ℕ) where
   unfolding looks
   looks_collect e = rw e
 
-  module _ (a : form ≡ 34 → ⊥) where
-    pub looks_early : form < 21 → false ≡ looks form
-    unfolding looks
-    looks_early h = rw (ne_eqb form 34 a, lt-ltb form 21 h)
+  pub looks_between : 21 ≤ form → form < 23 → true ≡ looks form
+  unfolding looks
+  looks_between l h = rw (ne_eqb form 34 (λ e. omega arith), le-ltb form 21 l, lt-ltb form 23 h)
 
-    pub looks_range : 21 ≤ form → ltb form 23 ≡ looks form
-    unfolding looks
-    looks_range h = rw (ne_eqb form 34 a, le-ltb form 21 h)
+  pub looks_early : form < 21 → false ≡ looks form
+  unfolding looks
+  looks_early h = rw (ne_eqb form 34 (λ e. omega arith), lt-ltb form 21 h)
+
+  pub looks_late : (form ≡ 34 → ⊥) → 23 ≤ form → false ≡ looks form
+  unfolding looks
+  looks_late a h = rw (ne_eqb form 34 a, le-ltb form 21 (omega arith), le-ltb form 23 h)
 
 letter_sequence : (l : Letter) → eqb (code_of l) 3 ≡ is_q l
 unfolding code_of is_q same_kind kind_code

@@ -1,6 +1,7 @@
 -- What is found in each part of a node, from what is found in its operands. Assumes nothing.
 use mathlib.Core.Path.{◌≡◌, sym, ap, ◌∙◌}
 use mathlib.Core.Bool.{Bool, true, false}
+use mathlib.Core.Logic.{◌⊎◌, inl, inr}
 use mathlib.Core.List.{List, [], ◌++◌, append_assoc}
 use Prim.Native.Nat.{ℕ, suc, ◌+◌, ◌-◌, ◌<◌, ◌≤◌}
 use native.Mathlib.Omega.{arith}
@@ -17,8 +18,6 @@ use Rattle.types.specs.Parts.{outer_code}
 use Rattle.nodes.specs.Nodes.{word, operands_in, tree_at}
 use Rattle.nodes.proofs.Nodes.{below_law, late_law}
 use Rattle.judgements.specs.declared.TypeEnv.{TypeEnv}
-use Rattle.judgements.specs.declared.Reply.{Reply}
-use Rattle.judgements.specs.declared.Reply.TheVariants as reply
 use Rattle.judgements.specs.Replies.{meaning, env_of, ReadsRows}
 use Rattle.numbering.specs.Lowest.{line_of, lower, lowest_with}
 use Rattle.numbering.specs.Forms.{operand_count, members_at, operand_at, source_type, binds, body_operand, enters, inner_env, body_of, body_at, called_at, scope_at, looks, on_sequence, is_own}
@@ -26,40 +25,39 @@ use Rattle.numbering.specs.Walk.{CallsTold, Finds, FindsHere, Tests, Types}
 use Rattle.numbering.proofs.Lowest.{lowest_append, lowest_beside, line_there}
 use Rattle.numbering.proofs.Codes.{sequence_told, no_sequence_lem}
 use Rattle.numbering.proofs.Parts.{parts}
+use Rattle.std.specs.Prelude.{Result, Ok, Err}
+use Rattle.memory.specs.declared.refusals.Refused.{Refused}
 
 -- ---- the node itself
 
 module _ (parents tables : List ℕ) (rows : ℕ) (t : List ℕ) (n : ℕ) (env : TypeEnv) where
   -- what typing answers for the first operand
-  abbrev pub Sourced : Reply → Type 0
+  abbrev pub Sourced : Result FlatType Refused → Type 0
   Sourced r = Types parents tables rows (λ k. source_type k t n (env_of env)) r
 
-  pub on_refused : {r : Reply} {c p : ℕ} → Sourced r → r ≡ reply.No c p → Tests parents tables rows (λ k. on_sequence (source_type k t n (env_of env))) false
+  pub on_refused : {r : Result FlatType Refused} {f : Refused} → Sourced r → r ≡ Err f → Tests parents tables rows (λ k. on_sequence (source_type k t n (env_of env))) false
   on_refused d q = record { at = λ k h. no_sequence_lem (ap meaning (sym q) ∙ d.at k h) }
 
-  pub on_typed : {r : Reply} {u : FlatType} {c : ℕ} → Sourced r → r ≡ reply.Is u → c ≡ outer_code (ty_of u) → Tests parents tables rows (λ k. on_sequence (source_type k t n (env_of env))) (eqb c 3)
+  pub on_typed : {r : Result FlatType Refused} {u : FlatType} {c : ℕ} → Sourced r → r ≡ Ok u → c ≡ outer_code (ty_of u) → Tests parents tables rows (λ k. on_sequence (source_type k t n (env_of env))) (eqb c 3)
   on_typed {u = u} d q e = record { at = λ k h. sequence_told (ty_of u) (ap meaning (sym q) ∙ d.at k h) e }
 
   module _ (form : ℕ) where
     abbrev Own : Bool → Type 0
     Own b = Tests parents tables rows (λ k. is_own k t n form (env_of env)) b
 
-    pub own_as_sequence : form ≡ 10 → Own true
+    pub own_always : (form ≡ 10) ⊎ (form ≡ 35) → Own true
     unfolding is_own
-    own_as_sequence e = record { at = λ k h. rw e }
+    own_always (inl e) = record { at = λ k h. rw e }
+    own_always (inr e) = record { at = λ k h. rw e }
 
-    pub own_iter : form ≡ 35 → Own true
-    unfolding is_own
-    own_iter e = record { at = λ k h. rw e }
-
-    module _ (a : form ≡ 10 → ⊥) (b : form ≡ 35 → ⊥) {c : Bool} (d : c ≡ looks form) where
+    module _ (a : (form ≡ 10) ⊎ (form ≡ 35) → ⊥) {c : Bool} (d : c ≡ looks form) where
       pub own_looks : {r : Bool} → c ≡ true → Tests parents tables rows (λ k. on_sequence (source_type k t n (env_of env))) r → Own r
       unfolding is_own
-      own_looks e f = record { at = λ k h. f.at k h ∙ rw (ne_eqb form 10 a, ne_eqb form 35 b, ← d, e) }
+      own_looks e f = record { at = λ k h. f.at k h ∙ rw (ne_eqb form 10 (λ q. a (inl q)), ne_eqb form 35 (λ q. a (inr q)), ← d, e) }
 
-      pub own_not : c ≡ false → Own false
+      pub own_not : c ≡ false → Own c
       unfolding is_own
-      own_not e = record { at = λ k h. rw (ne_eqb form 10 a, ne_eqb form 35 b, ← d, e) }
+      own_not e = record { at = λ k h. rw (ne_eqb form 10 (λ q. a (inl q)), ne_eqb form 35 (λ q. a (inr q)), ← d, e) }
 
     module _ (best : ℕ) {c : Bool} (f : Own c) where
       pub own_found : (r : ℕ) → n < 768 → c ≡ true → line_of t r ≡ lower (line_of t best) (line_of t n)
@@ -77,12 +75,12 @@ pub calls_less : {t least : List ℕ} {k : Schema} {a n : ℕ} → a ≤ n → C
 calls_less h c = record { at = λ m l e. c.at m (omega arith) e }
 
 module _ (t least parents tables : List ℕ) (rows n form best : ℕ) (env : TypeEnv) where
-  module _ {r : Reply} (d : Sourced parents tables rows t n env r) where
-    pub body_refused : {c p : ℕ} → r ≡ reply.No c p → Finds t least parents tables rows n (λ k. body_at k t n form (env_of env)) best best
+  module _ {r : Result FlatType Refused} (d : Sourced parents tables rows t n env r) where
+    pub body_refused : {f : Refused} → r ≡ Err f → Finds t least parents tables rows n (λ k. body_at k t n form (env_of env)) best best
     unfolding lowest_with for_type
     body_refused q = record { at = λ k h m. rw (← d.at k h, q) }
 
-    module _ {u : FlatType} (q : r ≡ reply.Is u) {b : Bool} (e : b ≡ enters form (ty_of u)) where
+    module _ {u : FlatType} (q : r ≡ Ok u) {b : Bool} (e : b ≡ enters form (ty_of u)) where
       pub body_passed : b ≡ false → Finds t least parents tables rows n (λ k. body_at k t n form (env_of env)) best best
       unfolding lowest_with for_type body_of
       body_passed z = record { at = λ k h m. rw (← d.at k h, q, ← e, z) }

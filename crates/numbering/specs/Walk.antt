@@ -1,6 +1,6 @@
 -- What the contracts of the recursion say: for every schema that the lent words hold, with what was found in called bodies, the node that
 -- is found.
-use Rattle.std.specs.Prelude.{◌≡◌, Bool, List, ℕ, suc, ◌<◌, ◌≤◌, get_or}
+use Rattle.std.specs.Prelude.{◌≡◌, Bool, List, ℕ, suc, ◌<◌, ◌≤◌, get_or, Result}
 use Rattle.std.proofs.Math.Option.{none}
 use Rattle.memory.specs.Map as memory
 use Rattle.memory.specs.Codes as code
@@ -8,10 +8,11 @@ use Rattle.ocl.specs.Model.{Schema}
 use Rattle.ocl.specs.Typing.{Answer}
 use Rattle.sheet.specs.Sizes.{most_rows, most_nodes}
 use Rattle.nodes.specs.Nodes.{word}
-use Rattle.judgements.specs.declared.Reply.{Reply}
 use Rattle.judgements.specs.Replies.{meaning, ReadsRows}
 use Rattle.numbering.specs.Lowest.{line_of, lowest_with}
 use Rattle.numbering.specs.Forms.{called_at}
+use Rattle.memory.specs.declared.refusals.Refused.{Refused}
+use Rattle.types.specs.declared.FlatType.{FlatType}
 
 -- of each call before node n, what is outside in the body: a word has the node with the lowest line
 pub record CallsTold (t least : List ℕ) (k : Schema) (n : ℕ) : Type 0 where
@@ -39,5 +40,5 @@ pub record Tests (parents tables : List ℕ) (rows : ℕ) (f : Schema → Bool) 
   pub at : (k : Schema) → ReadsRows parents tables rows k → r ≡ f k
 
 -- what typing answers
-pub record Types (parents tables : List ℕ) (rows : ℕ) (f : Schema → Answer) (r : Reply) : Type 0 where
+pub record Types (parents tables : List ℕ) (rows : ℕ) (f : Schema → Answer) (r : Result FlatType Refused) : Type 0 where
   pub at : (k : Schema) → ReadsRows parents tables rows k → meaning r ≡ f k

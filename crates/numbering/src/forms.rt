@@ -11,9 +11,10 @@ ghost use Rattle.numbering.specs.Forms.{source_type, enters as entersForm, inner
 ghost use Rattle.numbering.specs.Walk.{FindsHere, Tests, Types};
 
 use super::lower;
+use judgements::TypeEnv;
 use judgements::environment::bind;
-use judgements::{Reply, TypeEnv};
 use memory::codes;
+use memory::refusals::Refused;
 use nodes::node_word;
 use types::FlatType;
 use types::letters::SEQUENCE;
@@ -31,7 +32,7 @@ pub fn source_type(
     n: usize,
     env: TypeEnv,
     marks: &mut [u64],
-) -> Reply
+) -> Result<FlatType, Refused>
     requires { NodeRoom n rows (length tables.now) (length nodes.now) (length marks.old) }
     ensures { Types parents.now tables.now rows (λ k. source_type k nodes.now n (env_of env)) result × (length marks.new ≡ length marks.old) }
 {
@@ -51,8 +52,7 @@ fn on_sequence(
     requires { NodeRoom n rows (length tables.now) (length nodes.now) (length marks.old) }
     ensures { Tests parents.now tables.now rows (λ k. on_sequence (source_type k nodes.now n (env_of env))) result }
 {
-    let source = source_type(nodes, parents, tables, rows, n, env, marks);
-    let Reply::Is(t) = source else {
+    let Ok(t) = source_type(nodes, parents, tables, rows, n, env, marks) else {
         return false;
     };
     outer_code(t) == SEQUENCE
@@ -62,13 +62,7 @@ fn on_sequence(
 fn looks(form: u64) -> bool
     ensures { result ≡ looksForm form }
 {
-    if form == codes::OF_MEMBERS {
-        return true;
-    }
-    if form < codes::INCLUDING {
-        return false;
-    }
-    form < codes::AND
+    matches!(form, codes::OF_MEMBERS | codes::INCLUDING | codes::UNION)
 }
 
 // Whether node n stands outside: `asSequence` and `iter` do, and `including`, `union` and `collect` on a type `Q(..)`.
@@ -85,16 +79,10 @@ fn is_outside(
     requires { NodeRoom n rows (length tables.now) (length nodes.now) (length marks.old) }
     ensures { Tests parents.now tables.now rows (λ k. is_own k nodes.now n form (env_of env)) result }
 {
-    if form == codes::TO_SEQUENCE {
-        return true;
+    match form {
+        codes::ITERATE | codes::TO_SEQUENCE => true,
+        _ => looks(form) && on_sequence(nodes, parents, tables, rows, n, env, marks),
     }
-    if form == codes::ITERATE {
-        return true;
-    }
-    if looks(form) {
-        return on_sequence(nodes, parents, tables, rows, n, env, marks);
-    }
-    false
 }
 
 // The lower of `best` and node n, if that stands outside; else `best`.
@@ -122,10 +110,7 @@ pub fn own(
 pub fn enters(form: u64, t: FlatType) -> bool
     ensures { result ≡ entersForm form (ty_of t) }
 {
-    if form == codes::LET_IN {
-        return true;
-    }
-    outer_code(t) != 0
+    form == codes::LET_IN || outer_code(t) != 0
 }
 
 // The types of the variables in the body.

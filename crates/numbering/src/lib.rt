@@ -41,16 +41,11 @@ pub fn lower(nodes: &[u64], a: usize, b: usize) -> usize
 fn late_count(form: u64) -> usize
     ensures { (result ≡ late_count form) × (result ≤ 4) }
 {
-    if form == codes::CONDITIONAL {
-        return 3;
+    match form {
+        codes::CONDITIONAL => 3,
+        codes::ITERATE | codes::OVER => 2,
+        _ => 1,
     }
-    if form == codes::ITERATE {
-        return 2;
-    }
-    if form == codes::OVER {
-        return 2;
-    }
-    1
 }
 
 // How many operands of node n stand in its own environment.
@@ -58,41 +53,23 @@ pub fn operand_count(nodes: &[u64], n: usize, form: u64) -> usize
     requires { (n < most_nodes) × (memory.nodes_end ≤ length nodes.now) }
     ensures { (result ≡ operand_count form (word nodes.now n 5)) × (result ≤ 4) }
 {
-    if codes::OVER < form {
-        return 0;
+    match form {
+        codes::NEGATION..=codes::CAST_TO | codes::FOR_ALL..=codes::EXISTS => 1,
+        codes::EQUAL..=codes::OR => 2,
+        codes::SET..=codes::BAG => member_count(nodes, n),
+        codes::IS_UNDEF..=codes::OVER => late_count(form),
+        _ => 0,
     }
-    if form < codes::NEGATION {
-        return 0;
-    }
-    if form < codes::EQUAL {
-        return 1;
-    }
-    if form < codes::FOR_ALL {
-        return 2;
-    }
-    if form < codes::SET {
-        return 1;
-    }
-    if form < codes::IS_UNDEF {
-        return member_count(nodes, n);
-    }
-    late_count(form)
 }
 
 // Whether a form binds variables in a body.
 pub fn binds(form: u64) -> bool
     ensures { result ≡ bindsForm form }
 {
-    if form == codes::LET_IN {
-        return true;
-    }
-    if form == codes::ITERATE {
-        return true;
-    }
-    if form < codes::FOR_ALL {
-        return false;
-    }
-    form < codes::SET
+    matches!(
+        form,
+        codes::LET_IN | codes::ITERATE | codes::FOR_ALL | codes::EXISTS
+    )
 }
 
 // Which operand the body is.

@@ -10,7 +10,7 @@ ghost use Rattle.numbering.specs.Walk.{WalkRoom, Finds};
 
 use super::forms::{enters, inner_env, own, source_type};
 use super::{binds, body_operand, lower, operand_count};
-use judgements::{Reply, TypeEnv};
+use judgements::TypeEnv;
 use memory::codes;
 use memory::words::wide;
 use nodes::node_word;
@@ -61,8 +61,7 @@ fn operands(
     ensures { Finds nodes.now least.now parents.now tables.now rows n (λ k. members_at k nodes.now n count 1 (env_of env)) best result }
 {
     let mut found = best;
-    let mut i: usize = 0;
-    while i < count {
+    for i in 0..count {
         found = operand(
             nodes,
             least,
@@ -75,7 +74,6 @@ fn operands(
             marks,
             found,
         );
-        i += 1;
     }
     found
 }
@@ -122,8 +120,7 @@ fn body(
     requires { WalkRoom n rows (length tables.now) (length nodes.now) (length least.now) (length marks.old) }
     ensures { Finds nodes.now least.now parents.now tables.now rows n (λ k. body_at k nodes.now n form (env_of env)) best result }
 {
-    let source = source_type(nodes, parents, tables, rows, n, env, marks);
-    let Reply::Is(t) = source else {
+    let Ok(t) = source_type(nodes, parents, tables, rows, n, env, marks) else {
         return best;
     };
     if enters(form, t) {

@@ -77,11 +77,8 @@ fn tell_calls(w0: &[u64], st: Counts, w1: &mut [u64], w2: &mut [u64])
 {
     let classes = wide(st.classes);
     let rows = wide(st.rows);
-    let mut n: usize = 0;
-    while n < memory::NODES {
-        let found = called_outside(w0, classes, rows, w1, w2, n);
-        w1[memory::DEPTHS + n] = found as u64;
-        n += 1;
+    for n in 0..memory::NODES {
+        w1[memory::DEPTHS + n] = called_outside(w0, classes, rows, w1, w2, n) as u64;
     }
 }
 
@@ -93,14 +90,11 @@ fn rules_outside(w0: &[u64], st: Counts, w1: &[u64], w2: &mut [u64]) -> usize
 {
     let classes = wide(st.classes);
     let rows = wide(st.rows);
-    let rules = wide(st.rules);
-    let mut best: usize = NONE;
-    let mut r: usize = 0;
-    while r < rules {
+    let mut best = NONE;
+    for r in 0..wide(st.rules) {
         let context = w0[memory::CONTEXTS + r] as u8;
         let root = wide(w0[memory::ROOTS + r]);
         best = root_outside(w0, classes, rows, w1, w2, root, context, best);
-        r += 1;
     }
     best
 }

@@ -1,6 +1,6 @@
 -- What all calls have in common: short slices leave everything as it was; long ones are wiped. Assumes nothing.
 use mathlib.Core.Path.{◌≡◌, refl, sym, ap, ◌∙◌}
-use mathlib.Core.Logic.{◌≢◌}
+use mathlib.Core.Logic.{◌≢◌, ◌⊎◌, inl, inr}
 use mathlib.Core.Bool.{Bool, true, false, ◌||◌}
 use mathlib.Core.List.{List, ◌++◌}
 use Prim.Native.Nat.{ℕ, ◌≤◌, ◌<◌}
@@ -9,7 +9,7 @@ use native.Mathlib.Nat.{zero-add}
 use borrow.Author.Tests.{lt-ltb, le-ltb, ltb-false, ne_eqb}
 use lib.ListN.{length, replicate}
 use lib.Dec.{ltb, eqb}
-use Rattle.std.specs.Prelude.{if◌then◌else◌}
+use Rattle.std.specs.Prelude.{if◌then◌else◌, Result}
 use Rattle.laws.proofs.Tests.{or-false}
 use Rattle.sheet.specs.Text.{Bytes}
 use Rattle.sheet.specs.Calls.{Verdict, refusal_at, refusal, wiped, words_after, output_after, short_words, short_output}
@@ -17,24 +17,21 @@ use Rattle.sheet.specs.Soundness.{Lent}
 use Rattle.tables.specs.Layout.{Kept}
 use Rattle.text.specs.Written.{Puts}
 use Rattle.opening.specs.declared.Answer.{Answer}
-use Rattle.reader.specs.declared.SheetRead.{SheetRead}
 use Rattle.opening.specs.Answers.{answer_of, AnswersWith}
 use Rattle.opening.specs.Parts.{OpensText, GivesAnswer, Leaves, Wipes, written_to}
+use Rattle.memory.specs.Refusals.{number, at}
+use Rattle.memory.specs.declared.refusals.Refusal.TheVariants.{ShortBench}
+use Rattle.memory.specs.declared.refusals.Refused.{Refused}
+use Rattle.tables.specs.declared.Counts.{Counts}
 
 -- ---- lengths
 
-or-true : (b : Bool) → b || true ≡ true
-or-true true = refl
-or-true false = refl
-
 module _ (w0 w1 w2 : List ℕ) where
-  pub short0 : length w0 < 8192 → true ≡ short_words w0 w1 w2
+  -- one of the first two is short
+  pub short01 : {t : Bool} → t ≡ true → (length w0 < 8192) ⊎ ((8192 ≤ length w0) × (length w1 < 8192)) → t ≡ short_words w0 w1 w2
   unfolding short_words
-  short0 h = rw (lt-ltb (length w0) 8192 h)
-
-  pub short1 : length w1 < 8192 → true ≡ short_words w0 w1 w2
-  unfolding short_words
-  short1 h = rw (lt-ltb (length w1) 8192 h, or-true (ltb (length w0) 8192))
+  short01 e (inl h) = e ∙ rw (lt-ltb (length w0) 8192 h) refl
+  short01 e (inr h) = e ∙ rw (le-ltb (length w0) 8192 h.0, lt-ltb (length w1) 8192 h.1) refl
 
   pub short2 : 8192 ≤ length w0 → 8192 ≤ length w1 → ltb (length w2) 8192 ≡ short_words w0 w1 w2
   unfolding short_words
@@ -55,7 +52,7 @@ all_lent {w0} {w1} {w2} {out} e q =
     record { words0 = l.0; words1 = l.1; words2 = l.2; output = ltb-false (length out) 2560 a.1 }
 
 -- the words are as many after as before
-pub still_lent : {text : Bytes} {r : SheetRead} {w0 w1 w2 v0 v1 v2 : List ℕ} {out : Bytes} → Lent w0 w1 w2 out → OpensText text r w0 w1 w2 v0 v1 v2 → Lent v0 v1 v2 out
+pub still_lent : {text : Bytes} {r : Result Counts Refused} {w0 w1 w2 v0 v1 v2 : List ℕ} {out : Bytes} → Lent w0 w1 w2 out → OpensText text r w0 w1 w2 v0 v1 v2 → Lent v0 v1 v2 out
 still_lent l k = record {
   words0 = omega (arith, l.words0, k.kept0.size);
   words1 = omega (arith, l.words1, k.kept1.size);
@@ -107,8 +104,8 @@ abbrev call : Verdict → List ℕ → List ℕ → List ℕ → Bytes → Verdi
 call v w0 w1 w2 out = if short_words w0 w1 w2 || short_output out then refusal 1 else v
 
 module _ (v : Verdict) (w0 w1 w2 : List ℕ) (out : Bytes) {a : Answer} {b : Bool} (is : b ≡ (short_words w0 w1 w2 || short_output out)) where
-  pub short_call : b ≡ true → a ≡ answer_of (refusal_at 1 0) → AnswersWith (call v w0 w1 w2 out) a w0 w1 w2 out w0 w1 w2 out
-  short_call q e = rw (sym is ∙ q) (untouched w0 w1 w2 out e)
+  pub short_call : {x : Refused} → b ≡ true → x ≡ at ShortBench 0 → a ≡ answer_of (refusal_at (number x.refusal) x.place) → AnswersWith (call v w0 w1 w2 out) a w0 w1 w2 out w0 w1 w2 out
+  short_call q s e = rw (sym is ∙ q) (untouched w0 w1 w2 out (rw s at e))
 
   pub long_call : {v0 v1 v2 x0 x1 x2 : List ℕ} {after : Bytes} → b ≡ false → v.number ≢ 1
       → Leaves v a w0 w1 w2 out v0 v1 v2 after → Wipes v0 v1 v2 x0 x1 x2 → AnswersWith (call v w0 w1 w2 out) a w0 w1 w2 out x0 x1 x2 after

@@ -25,11 +25,7 @@ use Rattle.sheet.proofs.Soundness.{type_refusals}
 use Rattle.tables.specs.declared.Counts.{Counts}
 use Rattle.tables.specs.Layout.{Kept}
 use Rattle.tables.proofs.Tables.{kept_refl, kept_then}
-use Rattle.reader.specs.declared.SheetRead.{SheetRead}
-use Rattle.reader.specs.declared.SheetRead.TheVariants as sheet
 use Rattle.reader.specs.Meanings.{EndsAs, a_sheet, a_refusal, ReadsTo}
-use Rattle.rules.specs.declared.all.RulesTyped.{RulesTyped}
-use Rattle.rules.specs.declared.all.RulesTyped.TheVariants as rules
 use Rattle.rules.specs.Accepted.{Known, KnownTyped}
 use Rattle.rules.specs.All.{AcceptsAs, refused as not-all, accepted as all_rules, Accepts}
 use Rattle.sheet.proofs.LineNumbers.{node_line_low}
@@ -37,82 +33,86 @@ use Rattle.opening.specs.declared.Answer.{Answer}
 use Rattle.opening.specs.Answers.{answer_of}
 use Rattle.opening.specs.Parts.{ReadsText, OpensAs, opened, refused, AcceptsSheet, OpensText, GivesAnswer, GivesFor, Leaves}
 use Rattle.opening.proofs.Answers.{gives_refusal}
+use Rattle.std.specs.Prelude.{Result, Ok, Err}
+use Rattle.memory.specs.Refusals.{number, at}
+use Rattle.memory.specs.declared.refusals.Refusal.TheVariants.{LongSheet}
+use Rattle.memory.specs.declared.refusals.Refused.{Refused}
 
 -- ---- the text's length
 
-pub long_text : (text : Bytes) (w0 w1 w2 : List ℕ) → 49152 < length text → ReadsText text (sheet.Refused 2 0) w0 w1 w2 w0 w1 w2
+pub long_text : (text : Bytes) (w0 w1 w2 : List ℕ) → 49152 < length text → ReadsText text (Err (at LongSheet 0)) w0 w1 w2 w0 w1 w2
 unfolding read_text
 long_text text w0 w1 w2 h = record { is = rw (lt-ltb 49152 (length text) h) a_refusal; kept0 = kept_refl w0; kept1 = kept_refl w1; kept2 = kept_refl w2 }
 
-pub within_text : {r : SheetRead} {w0 w1 w2 v0 v1 v2 : List ℕ} (text : Bytes) → length text ≤ 49152 → ReadsTo text r w0 w1 w2 v0 v1 v2 → ReadsText text r w0 w1 w2 v0 v1 v2
+pub within_text : {r : Result Counts Refused} {w0 w1 w2 v0 v1 v2 : List ℕ} (text : Bytes) → length text ≤ 49152 → ReadsTo text r w0 w1 w2 v0 v1 v2 → ReadsText text r w0 w1 w2 v0 v1 v2
 unfolding read_text
 within_text text h t = record { is = rw (le-ltb 49152 (length text) h) t.is; kept0 = t.kept0; kept1 = t.kept1; kept2 = t.kept2 }
 
 -- ---- a sheet that is read, and its definitions and rules typed
 
-module _ {st : Counts} {w0 u1 u2 v1 v2 : List ℕ} {a : RulesTyped} (t : Accepts st w0 u1 u2 v1 v2 a) where
-  pub accepts_sheet : a ≡ rules.Yes → AcceptsSheet st w0 u1 u2 v1 v2 (sheet.Sheet st)
+module _ {st : Counts} {w0 u1 u2 v1 v2 : List ℕ} {a : Result Unit Refused} (t : Accepts st w0 u1 u2 v1 v2 a) where
+  pub accepts_sheet : a ≡ Ok tt → AcceptsSheet st w0 u1 u2 v1 v2 (Ok st)
   accepts_sheet e = record { is = λ text s q g. by text s q (rw e at (t.is s g)); kept1 = t.kept1; kept2 = t.kept2 }
     where
-      by : (text : Bytes) (s : Sheet) → read_text text ≡ accepted s → AcceptsAs st w0 v1 v2 s rules.Yes → OpensAs text w0 v1 v2 (sheet.Sheet st)
+      by : (text : Bytes) (s : Sheet) → read_text text ≡ accepted s → AcceptsAs st w0 v1 v2 s (Ok tt) → OpensAs text w0 v1 v2 (Ok st)
       by text s q (all_rules ts h i) = opened s ts q h i
 
-  pub accepts_none : {n k : ℕ} → a ≡ rules.No n k → AcceptsSheet st w0 u1 u2 v1 v2 (sheet.Refused n k)
+  pub accepts_none : {x : Refused} → a ≡ Err x → AcceptsSheet st w0 u1 u2 v1 v2 (Err x)
   unfolding on_accepted on_sheet
-  accepts_none {n} {k} e = record { is = λ text s q g. by text s q (rw e at (t.is s g)); kept1 = t.kept1; kept2 = t.kept2 }
+  accepts_none {x} e = record { is = λ text s q g. by text s q (rw e at (t.is s g)); kept1 = t.kept1; kept2 = t.kept2 }
     where
-      by : (text : Bytes) (s : Sheet) → read_text text ≡ accepted s → AcceptsAs st w0 v1 v2 s (rules.No n k) → OpensAs text w0 v1 v2 (sheet.Refused n k)
-      by text s q (not-all h) = refused {n = n} {k = k} (λ f. rw q (h (f s)))
+      by : (text : Bytes) (s : Sheet) → read_text text ≡ accepted s → AcceptsAs st w0 v1 v2 s (Err x) → OpensAs text w0 v1 v2 (Err x)
+      by text s q (not-all h) = refused (λ f. rw q (h (f s)))
 
-module _ {text : Bytes} {w0 w1 w2 v0 v1 v2 : List ℕ} {r : SheetRead} (t : ReadsText text r w0 w1 w2 v0 v1 v2) where
-  pub known_read : {st : Counts} → r ≡ sheet.Sheet st → Known st v0 v1
+module _ {text : Bytes} {w0 w1 w2 v0 v1 v2 : List ℕ} {r : Result Counts Refused} (t : ReadsText text r w0 w1 w2 v0 v1 v2) where
+  pub known_read : {st : Counts} → r ≡ Ok st → Known st v0 v1
   known_read {st} e = by (read_text text) refl (rw e at t.is)
     where
-      by : (x : Reading) → read_text text ≡ x → EndsAs v0 v1 (sheet.Sheet st) x → Known st v0 v1
+      by : (x : Reading) → read_text text ≡ x → EndsAs v0 v1 (Ok st) x → Known st v0 v1
       by x q (a_sheet {s = s} f g) = record { sheet = s; lies = record { good = accepted_good text s q; low = node_line_low text s q; fine = f; holds = g } }
 
-  pub opens_sheet : {st : Counts} {x1 x2 : List ℕ} {z : SheetRead} → r ≡ sheet.Sheet st → AcceptsSheet st v0 v1 v2 x1 x2 z → OpensText text z w0 w1 w2 v0 x1 x2
+  pub opens_sheet : {st : Counts} {x1 x2 : List ℕ} {z : Result Counts Refused} → r ≡ Ok st → AcceptsSheet st v0 v1 v2 x1 x2 z → OpensText text z w0 w1 w2 v0 x1 x2
   opens_sheet {st} {x1} {x2} {z} e d =
       record { is = by (read_text text) refl (rw e at t.is); kept0 = t.kept0; kept1 = kept_then t.kept1 d.kept1; kept2 = kept_then t.kept2 d.kept2 }
     where
-      by : (x : Reading) → read_text text ≡ x → EndsAs v0 v1 (sheet.Sheet st) x → OpensAs text v0 x1 x2 z
+      by : (x : Reading) → read_text text ≡ x → EndsAs v0 v1 (Ok st) x → OpensAs text v0 x1 x2 z
       by x q (a_sheet {s = s} f g) = d.is text s q (record { good = accepted_good text s q; low = node_line_low text s q; fine = f; holds = g })
 
-  pub opens_none : {n k : ℕ} → r ≡ sheet.Refused n k → OpensText text (sheet.Refused n k) w0 w1 w2 v0 v1 v2
+  pub opens_none : {z : Refused} → r ≡ Err z → OpensText text (Err z) w0 w1 w2 v0 v1 v2
   unfolding on_accepted on_sheet
-  opens_none {n} {k} e = record { is = by (read_text text) refl (rw e at t.is); kept0 = t.kept0; kept1 = t.kept1; kept2 = t.kept2 }
+  opens_none {z} e = record { is = by (read_text text) refl (rw e at t.is); kept0 = t.kept0; kept1 = t.kept1; kept2 = t.kept2 }
     where
-      by : (x : Reading) → read_text text ≡ x → EndsAs v0 v1 (sheet.Refused n k) x → OpensAs text v0 v1 v2 (sheet.Refused n k)
-      by x q a_refusal = refused {n = n} {k = k} (λ f. rw q)
+      by : (x : Reading) → read_text text ≡ x → EndsAs v0 v1 (Err z) x → OpensAs text v0 v1 v2 (Err z)
+      by x q a_refusal = refused (λ f. rw q)
 
 -- ---- after a text is opened
 
 module _ {text : Bytes} {v0 v1 v2 : List ℕ} where
-  known_as : {st : Counts} → OpensAs text v0 v1 v2 (sheet.Sheet st) → KnownTyped st v0 v1 v2
+  known_as : {st : Counts} → OpensAs text v0 v1 v2 (Ok st) → KnownTyped st v0 v1 v2
   known_as (opened s ts q h i) = record { sheet = s; types = ts; accepted = h; waiting = i }
 
-  gives_as : {st : Counts} {a : Answer} {before after : Bytes} (f : Sheet → List Ty → Verdict) → OpensAs text v0 v1 v2 (sheet.Sheet st) → GivesFor st v0 v1 v2 f a before after
+  gives_as : {st : Counts} {a : Answer} {before after : Bytes} (f : Sheet → List Ty → Verdict) → OpensAs text v0 v1 v2 (Ok st) → GivesFor st v0 v1 v2 f a before after
       → GivesAnswer (on_accepted text f) a before after
   gives_as f (opened s ts q h i) d = rw (on_accepted_lem text (record { sheet = s; is = q; defined = h.defined; typing = record { types = ts; all = h.typed } }) f) (d.for s ts h i)
 
-  stops_as : {n k : ℕ} {a : Answer} (f : Sheet → List Ty → Verdict) (out : Bytes) → OpensAs text v0 v1 v2 (sheet.Refused n k) → a ≡ answer_of (refusal_at n k)
+  stops_as : {x : Refused} {a : Answer} (f : Sheet → List Ty → Verdict) (out : Bytes) → OpensAs text v0 v1 v2 (Err x) → a ≡ answer_of (refusal_at (number x.refusal) x.place)
       → GivesAnswer (on_accepted text f) a out out
-  stops_as {n} {k} f out (refused h) e = rw (h f) (gives_refusal n k out e)
+  stops_as f out (refused {e = n} {k = k} h) e = rw (h f) (gives_refusal (number n) k out e)
 
-module _ {text : Bytes} {w0 w1 w2 v0 v1 v2 : List ℕ} {r : SheetRead} (t : OpensText text r w0 w1 w2 v0 v1 v2) where
-  pub known_on : {st : Counts} → r ≡ sheet.Sheet st → KnownTyped st v0 v1 v2
+module _ {text : Bytes} {w0 w1 w2 v0 v1 v2 : List ℕ} {r : Result Counts Refused} (t : OpensText text r w0 w1 w2 v0 v1 v2) where
+  pub known_on : {st : Counts} → r ≡ Ok st → KnownTyped st v0 v1 v2
   known_on e = known_as (rw e at t.is)
 
   -- what follows may write to w1 and w2
-  pub leaves_with : {st : Counts} {a : Answer} {x1 x2 : List ℕ} {out after : Bytes} (f : Sheet → List Ty → Verdict) → r ≡ sheet.Sheet st
+  pub leaves_with : {st : Counts} {a : Answer} {x1 x2 : List ℕ} {out after : Bytes} (f : Sheet → List Ty → Verdict) → r ≡ Ok st
       → GivesFor st v0 v1 v2 f a out after → Kept v1 x1 → Kept v2 x2 → Leaves (on_accepted text f) a w0 w1 w2 out v0 x1 x2 after
   leaves_with f e d j k = record { gives = gives_as f (rw e at t.is) d; kept0 = t.kept0; kept1 = kept_then t.kept1 j; kept2 = kept_then t.kept2 k }
 
-  pub leaves_on : {st : Counts} {a : Answer} {x2 : List ℕ} {out after : Bytes} (f : Sheet → List Ty → Verdict) → r ≡ sheet.Sheet st
+  pub leaves_on : {st : Counts} {a : Answer} {x2 : List ℕ} {out after : Bytes} (f : Sheet → List Ty → Verdict) → r ≡ Ok st
       → GivesFor st v0 v1 v2 f a out after → Kept v2 x2 → Leaves (on_accepted text f) a w0 w1 w2 out v0 v1 x2 after
   leaves_on f e d k = leaves_with f e d (kept_refl v1) k
 
-  pub leaves_stop : {n k : ℕ} {a : Answer} (f : Sheet → List Ty → Verdict) (out : Bytes) → r ≡ sheet.Refused n k → a ≡ answer_of (refusal_at n k)
+  pub leaves_stop : {x : Refused} {a : Answer} (f : Sheet → List Ty → Verdict) (out : Bytes) → r ≡ Err x → a ≡ answer_of (refusal_at (number x.refusal) x.place)
       → Leaves (on_accepted text f) a w0 w1 w2 out v0 v1 v2 out
   leaves_stop f out e q = record { gives = stops_as f out (rw e at t.is) q; kept0 = t.kept0; kept1 = t.kept1; kept2 = t.kept2 }
 

@@ -4,6 +4,7 @@
 #![tactic(auto)]
 
 ghost use Rattle.std.specs.Prelude.{◌||◌, ◌≡◌, ◌≤◌, length};
+ghost use Rattle.memory.specs.Refusals.{number};
 ghost use Rattle.sheet.specs.Sizes.{least_words};
 ghost use Rattle.sheet.specs.Calls.{Verdict, refusal_at, short_words, short_output};
 ghost use Rattle.rules.specs.Accepted.{Known};
@@ -11,9 +12,9 @@ ghost use Rattle.report.specs.Reports.{SaysReport};
 ghost use Rattle.opening.specs.Answers.{answer_of};
 ghost use Rattle.opening.specs.Parts.{ReadsText, AcceptsSheet, OpensText, Wipes, written_to};
 
-use reader::{SheetRead, read};
-use report::Reported;
-use rules::all::{RulesTyped, accept};
+use memory::refusals::{Refusal, Refused};
+use reader::read;
+use rules::all::accept;
 use tables::Counts;
 
 // What a call returns: 0 or a refusal's number, the steps of an evaluation, a line number, and the bytes written.
@@ -31,10 +32,18 @@ pub fn no_output(number: u64, place: u64) -> Answer
     ensures { result ≡ answer_of (refusal_at number place) }
 {
     Answer {
-        number: number,
+        number,
         steps: 0,
-        place: place,
+        place,
         length: 0,
+    }
+}
+
+impl From<Refused> for Answer {
+    ghost from_gives = { λ r a. a ≡ answer_of (refusal_at (number r.refusal) r.place) };
+
+    fn from(refused: Refused) -> Answer {
+        no_output(u64::from(refused.refusal), refused.place)
     }
 }
 
@@ -44,19 +53,19 @@ pub fn written(end: usize, steps: u64) -> Answer
 {
     Answer {
         number: 0,
-        steps: steps,
+        steps,
         place: 0,
         length: end as u64,
     }
 }
 
 // The answer for lines that are put into the output: their length; or 18 where they are longer than it.
-pub fn lines_answer(r: Reported) -> Answer
+pub fn lines_answer(r: Option<usize>) -> Answer
     ensures { (v : Verdict) → SaysReport r v → result ≡ answer_of v }
 {
     match r {
-        Reported::Written(end) => written(end, 0),
-        Reported::Short => no_output(18, 0),
+        Some(end) => written(end, 0),
+        None => Answer::from(Refusal::SlipTooLong.at(0)),
     }
 }
 
@@ -64,57 +73,61 @@ pub fn lines_answer(r: Reported) -> Answer
 pub fn short(w0: &[u64], w1: &[u64], w2: &[u64]) -> bool
     ensures { result ≡ short_words w0.now w1.now w2.now }
 {
-    if w0.len() < memory::LEAST_WORDS {
-        return true;
-    }
-    if w1.len() < memory::LEAST_WORDS {
-        return true;
-    }
-    w2.len() < memory::LEAST_WORDS
+    w0.len() < memory::LEAST_WORDS
+        || w1.len() < memory::LEAST_WORDS
+        || w2.len() < memory::LEAST_WORDS
 }
 
 // Whether a word slice has fewer than 8,192 words, or the output fewer than 2,560 bytes.
 pub fn short_lent(w0: &[u64], w1: &[u64], w2: &[u64], out: &[u8]) -> bool
     ensures { result ≡ (short_words w0.now w1.now w2.now || short_output out.now) }
 {
-    if short(w0, w1, w2) {
-        return true;
-    }
-    out.len() < memory::LEAST_OUTPUT
+    short(w0, w1, w2) || out.len() < memory::LEAST_OUTPUT
 }
 
 // Reads a text of any length: its sheet in the words, or a refusal.
-pub fn read_text(text: &[u8], w0: &mut [u64], w1: &mut [u64], w2: &mut [u64]) -> SheetRead
+pub fn read_text(
+    text: &[u8],
+    w0: &mut [u64],
+    w1: &mut [u64],
+    w2: &mut [u64],
+) -> Result<Counts, Refused>
     requires { (least_words ≤ length w0.old) × (least_words ≤ length w1.old) × (least_words ≤ length w2.old) }
     ensures { ReadsText text.now result w0.old w1.old w2.old w0.new w1.new w2.new }
 {
     if memory::MOST_BYTES < text.len() {
-        return SheetRead::Refused(2, 0);
+        return Err(Refusal::LongSheet.at(0));
     }
     read(text, w0, w1, w2)
 }
 
 // Types all definitions and rules of the sheet that lies in the words: the sheet is accepted, or the first refusal is given.
-pub fn accept_sheet(w0: &[u64], st: Counts, w1: &mut [u64], w2: &mut [u64]) -> SheetRead
+pub fn accept_sheet(
+    w0: &[u64],
+    st: Counts,
+    w1: &mut [u64],
+    w2: &mut [u64],
+) -> Result<Counts, Refused>
     requires least_words_in_bounds { (least_words ≤ length w0.now) × (least_words ≤ length w1.old) × (least_words ≤ length w2.old) }
     requires known { Known st w0.now w1.old }
     ensures { AcceptsSheet st w0.now w1.old w2.old w1.new w2.new result }
 {
-    match accept(w0, st, w1, w2) {
-        RulesTyped::Yes => SheetRead::Sheet(st),
-        RulesTyped::No(n, k) => SheetRead::Refused(n, k),
-    }
+    accept(w0, st, w1, w2)?;
+    Ok(st)
 }
 
 // Opens a text for a call: it is read, and all its definitions and rules are typed. Every call begins so, and refuses alike.
-pub fn open_text(text: &[u8], w0: &mut [u64], w1: &mut [u64], w2: &mut [u64]) -> SheetRead
+pub fn open_text(
+    text: &[u8],
+    w0: &mut [u64],
+    w1: &mut [u64],
+    w2: &mut [u64],
+) -> Result<Counts, Refused>
     requires { (least_words ≤ length w0.old) × (least_words ≤ length w1.old) × (least_words ≤ length w2.old) }
     ensures { OpensText text.now result w0.old w1.old w2.old w0.new w1.new w2.new }
 {
-    match read_text(text, w0, w1, w2) {
-        SheetRead::Sheet(st) => accept_sheet(w0, st, w1, w2),
-        SheetRead::Refused(n, k) => SheetRead::Refused(n, k),
-    }
+    let st = read_text(text, w0, w1, w2)?;
+    accept_sheet(w0, st, w1, w2)
 }
 
 // Sets the first 8,192 words of each slice to 0.

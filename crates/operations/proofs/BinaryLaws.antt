@@ -7,7 +7,7 @@ use native.Mathlib.Omega.{arith}
 use lib.ListN.{length, get_or}
 use lib.Dec.{eqb, leb}
 use borrow.Author.Tests.{lt-ltb, le-ltb, eq-eqb, ne_eqb}
-use Rattle.std.specs.Prelude.{if◌then◌else◌}
+use Rattle.std.specs.Prelude.{if◌then◌else◌, Option as Optional}
 use Rattle.laws.proofs.Tests.{by-if}
 use Rattle.ocl.specs.Types.{Kind, kind_code, same_kind}
 use Rattle.ocl.specs.Values.{Value, bool, coll, Values, same, has, add, add_all}
@@ -18,7 +18,6 @@ use Rattle.values.specs.Cells.{fits_bool}
 use Rattle.values.specs.Meanings.{means_bool, SortOf, IntegerTest, SameAt, HasAt, Adds, Unites}
 use Rattle.values.specs.Integers.{arith_of, division_of}
 use Rattle.values.specs.declared.Simple.TheVariants as simple
-use Rattle.values.specs.declared.Formed.{Formed}
 use Rattle.values.proofs.Heads.{shape, Shape, shape_bool, shape_num, shape_obj, shape_coll}
 use Rattle.values.proofs.Adding.{header}
 use Rattle.nodes.specs.Nodes.{binary_of, arith_by_code as arith_code_of, division_by_code as division_code_of}
@@ -101,7 +100,7 @@ module _ {sp la lb s : ℕ} {B : List ℕ} where
             rw x.is (G.is (bool (has w x.members)) fits_bool (rw (E.is w x.members k.fits x.fits c.cells k.cells) means_bool));
       }
 
-      pub including_done : {A : List ℕ} (f : Formed) {r : Ended} → sp ≤ length B → Adds sp (sp + la) lb B A f → r ≡ formed_as f s → OfTwo AnyMark (λ m. binary_apply m including) sp la lb s B A r
+      pub including_done : {A : List ℕ} (f : Optional ℕ) {r : Ended} → sp ≤ length B → Adds sp (sp + la) lb B A f → r ≡ formed_as f s → OfTwo AnyMark (λ m. binary_apply m including) sp la lb s B A r
       unfolding binary_apply
       including_done f room D q = rw q (record {
         small = formed_small f s D.small;
@@ -121,7 +120,7 @@ module _ {sp la lb s : ℕ} {B : List ℕ} where
             by j vs a (shape_obj c d e) = ran_stuck
             by j vs a (shape_coll {k = k} c d e) = rw (ne_eqb (kind_code j) (kind_code k) (λ z. n (omega arith))) ran_stuck
 
-        pub union_done : {A : List ℕ} {end : ℕ} (f : Formed) {r : Ended} → u ≡ t → end ≡ sp + la + lb → sp ≤ length B → Unites sp (sp + la) end B A f → r ≡ formed_as f s → OfTwo AnyMark (λ m. binary_apply m union) sp la lb s B A r
+        pub union_done : {A : List ℕ} {end : ℕ} (f : Optional ℕ) {r : Ended} → u ≡ t → end ≡ sp + la + lb → sp ≤ length B → Unites sp (sp + la) end B A f → r ≡ formed_as f s → OfTwo AnyMark (λ m. binary_apply m union) sp la lb s B A r
         unfolding binary_apply same_kind
         union_done f e z room D q = rw q (record {
           small = formed_small f s D.small;

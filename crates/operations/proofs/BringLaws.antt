@@ -4,9 +4,8 @@ use mathlib.Core.Option.{some}
 use mathlib.Core.List.{List, [], ◌++◌, append_assoc, append-nil}
 use Prim.Native.Nat.{ℕ, ◌+◌, ◌<◌, ◌≤◌, max}
 use native.Mathlib.Omega.{arith}
-use native.Mathlib.Nat.{add-zero}
 use lib.ListN.{length, get_or}
-use lib.Seq.{slice, length-slice, slice_empty, get_or-take}
+use lib.Seq.{slice, length-slice, get_or-take}
 use Rattle.laws.proofs.Slices.{split_left, split_right, slice_join, under_top}
 use Rattle.ocl.specs.Values.{Value, obj, Values, nil, cons, size, sizes}
 use Rattle.ocl.specs.Model.{Model}
@@ -18,14 +17,13 @@ use Rattle.tables.specs.declared.Counts.{Counts}
 use Rattle.tables.specs.Stored.{HoldsModel}
 use Rattle.outcomes.specs.declared.Ended.{Ended}
 use Rattle.outcomes.specs.declared.Ended.TheVariants as ended
-use Rattle.outcomes.specs.declared.Place.{Place}
-use Rattle.outcomes.specs.declared.Place.TheVariants as place
 use Rattle.outcomes.specs.Answers.{Lies, Ends, ends_value, Under, Ran}
 use Rattle.outcomes.specs.Tables.{Plain, RowSlot, SlotHolds, SlotStands}
 use Rattle.operations.specs.Collect.{standing, worst, brought, too_many, FewCells, BringsAll}
-use Rattle.outcomes.proofs.Words.{under_refl, under_then, under_down, head_at_lem, Other}
+use Rattle.outcomes.proofs.Words.{under_then, under_down, head_at_lem, Other}
 use Rattle.outcomes.proofs.Lookups.{Object, has_object}
 use Rattle.operations.proofs.StandingLaws.{standing_least, given_by, all_given, values_cons}
+use Rattle.std.specs.Prelude.{Option as Optional, Some, None}
 
 pub no_value : {A : Type 0} (n s : ℕ) → Other (ended.Value n s) → A
 no_value n s z = absurd (z n s refl)
@@ -90,25 +88,6 @@ pub record Bringing (st : Counts) (w0 : List ℕ) (i from end : ℕ) (S₀ S : L
   pub small : len ≤ 127
   pub going : (m : Model) → HoldsModel st w0 m → Plain st m → (vs ws : Values) → AllFit vs → slice from end S₀ ≡ encs vs → worst m i vs ≡ 0 → values_in_row m i vs ≡ some ws
       → Gone m i ws S₀ S q end len
-
-pub bring_start : {st : Counts} {w0 : List ℕ} {i from end : ℕ} (S : List ℕ) → end + 256 ≤ length S → from ≤ end → Bringing st w0 i from end S S from 0
-bring_start {end = end} S room h = record {
-  room = room;
-  long = refl;
-  below = h;
-  small = omega arith;
-  going = λ m H P vs ws f e z g. record {
-    rest = vs;
-    more = ws;
-    kept = under_refl;
-    left = record { fits = f; lies = e };
-    fine = z;
-    values = g;
-    cells = rw (add-zero end, slice_empty end S);
-    size = omega arith;
-    fits = λ a. a;
-  };
-}
 
 module _ {st : Counts} {w0 : List ℕ} {i from end : ℕ} {S₀ S : List ℕ} {q len : ℕ} (G : Bringing st w0 i from end S₀ S q len) (h : q < end) where
   -- the cell at q is below what was brought
@@ -177,19 +156,19 @@ module _ {st : Counts} {w0 : List ℕ} {i from end : ℕ} {S₀ S : List ℕ} {q
       let r = G.room in
       turn_of m ws x (first_member (omega arith) h x.left)
 
-  pub bring_none : {s : ℕ} {x : Place} → RowSlot st w0 i (get_or S q 0) x → x ≡ place.Nowhere → BringsAll st w0 i from end s S₀ S (ended.Undef s)
+  pub bring_none : {s : ℕ} {x : Optional ℕ} → RowSlot st w0 i (get_or S q 0) x → x ≡ None → BringsAll st w0 i from end s S₀ S (ended.Undef s)
   bring_none F y =
-      let a : RowSlot st w0 i (get_or S q 0) place.Nowhere = rw y at F in
+      let a : RowSlot st w0 i (get_or S q 0) None = rw y at F in
       record {
         few = tt;
         is = λ m H P vs ws f e z g. absurd (let t = turn m H P vs ws f e z g in let d = sym (a m H t.o t.fits t.at) ∙ t.given in let n : ◌≡◌ {A = ℕ} 0 1 = cc in omega arith);
       }
 
-  module _ {s j : ℕ} {x : Place} {S' : List ℕ} {one : Ended} (F : RowSlot st w0 i (get_or S q 0) x) (y : x ≡ place.At j) (D : SlotStands st w0 j (end + len) s S S' one) where
+  module _ {s j : ℕ} {x : Optional ℕ} {S' : List ℕ} {one : Ended} (F : RowSlot st w0 i (get_or S q 0) x) (y : x ≡ Some j) (D : SlotStands st w0 j (end + len) s S S' one) where
     -- it stands after the others
     stands_there : (m : Model) → HoldsModel st w0 m → Plain st m → (ws : Values) (t : Turn m ws) → Ran (value t.v s) (end + len) S S' one × Fits t.v
     stands_there m H P ws t =
-        let a : RowSlot st w0 i (get_or S q 0) (place.At j) = rw y at F in
+        let a : RowSlot st w0 i (get_or S q 0) (Some j) = rw y at F in
         let b = a.1 m H t.o t.fits t.at in
         let d : some b.0 ≡ some t.v = sym b.1.0 ∙ t.given in
         let e : b.0 ≡ t.v = cc in

@@ -8,16 +8,15 @@ use lib.ListN.{length, get_or}
 use lib.Seq.{slice}
 use lib.Dec.{ltb}
 use borrow.Author.Tests.{lt-leb, lt-ltb, le-ltb}
-use Rattle.std.specs.Prelude.{if◌then◌else◌}
+use Rattle.std.specs.Prelude.{if◌then◌else◌, Option as Optional}
 use Rattle.ocl.specs.Types.{Kind, set, sequence, bag, kind_code}
-use Rattle.ocl.specs.Values.{Value, coll, Values, nil, size, sizes, add_all}
+use Rattle.ocl.specs.Values.{coll, Values, nil, size, sizes, add_all}
 use Rattle.ocl.specs.Model.{Model, every}
 use Rattle.ocl.specs.Forms.{of_members}
 use Rattle.ocl.specs.Marks.{row_marked, kind_marked}
 use Rattle.ocl.specs.Operations.{stuck, stop, form, has_row, values_in_row, form_all, access}
 use Rattle.values.specs.Cells.{encs, AllFit}
 use Rattle.values.specs.Meanings.{SortOf, Assembles}
-use Rattle.values.specs.declared.Formed.{Formed}
 use Rattle.values.proofs.Adding.{header}
 use Rattle.values.proofs.Growing.{add_all_sizes}
 use Rattle.nodes.specs.Marks.{kind_in}
@@ -127,7 +126,7 @@ module _ {st : Counts} {w0 : List ℕ} {mark sp len s t : ℕ} {B : List ℕ} (S
             by ws (ended.Undef _) d z = elim d [ ]
             by ws ended.Stuck d z = elim d [ ]
 
-        pub collect_done : {n u kind : ℕ} {A : List ℕ} (f : Formed) {r : Ended} → x ≡ ended.Value n u → length C ≡ length B → kind ≡ kind_code (kind_in mark) → Assembles kind sp (sp + len) (sp + len + n) C A f → r ≡ formed_as f u
+        pub collect_done : {n u kind : ℕ} {A : List ℕ} (f : Optional ℕ) {r : Ended} → x ≡ ended.Value n u → length C ≡ length B → kind ≡ kind_code (kind_in mark) → Assembles kind sp (sp + len) (sp + len + n) C A f → r ≡ formed_as f u
             → Accesses of_members st w0 mark sp len s B A r
         collect_done {n} {u} {A = A} f e long k M q = rw q (on_values (formed_small f u M.small) (λ ws i d. by x e ws i d))
           where

@@ -22,8 +22,6 @@ use Rattle.ocl.proofs.Values.{size_pos}
 use Rattle.values.specs.Cells.{head, enc, fits_bool, fits_num, fits_obj}
 use Rattle.values.specs.Meanings.{means_bool, means_obj, EmptyOf, Forms, Appends, Copies}
 use Rattle.values.specs.declared.Simple.TheVariants as simple
-use Rattle.values.specs.declared.Formed.{Formed}
-use Rattle.values.specs.declared.Formed.TheVariants as formed
 use Rattle.values.proofs.Forming.{forms_done, done_size, over_size}
 use Rattle.values.proofs.Growing.{nil_fits}
 use Rattle.nodes.specs.Nodes.{leaf_of}
@@ -36,6 +34,7 @@ use Rattle.outcomes.specs.Tables.{IsA, WithObject, Instances}
 use Rattle.operations.specs.Runs.{ModelIn, Held, free, held, Evals, Variable, leaf_for}
 use Rattle.outcomes.proofs.Words.{under_refl, under_then, lies_above, formed_small, formed_ran, formed_value}
 use Rattle.operations.proofs.OperationLaws.{ran_stuck, ran_undefined}
+use Rattle.std.specs.Prelude.{Option as Optional, Some, None}
 
 -- ---- variables
 
@@ -55,7 +54,7 @@ module _ {i sp s : ℕ} {env B : List ℕ} where
         by none (free e) = absurd (n e)
         by (some v) (held p' a l m k) = absurd (let z = l.long in let y = size_pos v in omega arith)
 
-    pub variable_done : {A : List ℕ} (f : Formed) {r : Ended} → sp ≤ length B → Copies p sp B A f → r ≡ formed_as f s → Variable i env sp s B A r
+    pub variable_done : {A : List ℕ} (f : Optional ℕ) {r : Ended} → sp ≤ length B → Copies p sp B A f → r ≡ formed_as f s → Variable i env sp s B A r
     variable_done {A} f {r} room C e = rw e (record { small = formed_small f s C.small; ran = λ ρ rel. by (ρ i) (rel.at i) })
       where
         by : (o : Option Value) → Held B sp (get_or env i 0) o → Ran (bound o s) sp B A (formed_as f s)
@@ -67,7 +66,7 @@ module _ {i sp s : ℕ} {env B : List ℕ} where
 
 -- ---- the objects of a class
 
-pub lies_forms : {v : Value} {sp len : ℕ} (B : List ℕ) {A : List ℕ} → Lies v sp len A → Under sp A B → len ≤ 128 → sp ≤ length B → Forms v sp (take sp B) A (formed.Done len)
+pub lies_forms : {v : Value} {sp len : ℕ} (B : List ℕ) {A : List ℕ} → Lies v sp len A → Under sp A B → len ≤ 128 → sp ≤ length B → Forms v sp (take sp B) A (Some len)
 lies_forms {v} {sp} {len} B {A} l u h room =
     forms_done B l.fits (sym l.long) h room
     (whole A sp (sp + len) (omega arith) ∙ ap (λ (x : List ℕ). x ++ slice sp (sp + len) A) u.same ∙ ap (λ (x : List ℕ). take sp B ++ x) l.cells)
@@ -78,7 +77,7 @@ pub record FormedAt (v : Value) (sp n : ℕ) (B A : List ℕ) : Type 0 where
   pub kept : Under sp A B
   pub small : n ≤ 128
 
-pub formed_at : {v : Value} {sp n : ℕ} (B : List ℕ) {A : List ℕ} {f : Formed} → Forms v sp (take sp B) A f → f ≡ formed.Done n → sp ≤ length B → FormedAt v sp n B A
+pub formed_at : {v : Value} {sp n : ℕ} (B : List ℕ) {A : List ℕ} {f : Optional ℕ} → Forms v sp (take sp B) A f → f ≡ Some n → sp ≤ length B → FormedAt v sp n B A
 formed_at {v} {sp} {n} B {A} F e room =
     let d = done_size F e in
     record { lies = rw d.0 (lies_above v sp B A (F.fits d.1) room (F.lies d.1)); kept = record { same = F.below }; small = omega arith }
@@ -97,14 +96,14 @@ instances_few m c (suc n) =
     (λ h. let e = sizes_append (obj n) (instances m c n) in omega arith) (λ h. omega arith)
 
 module _ {st : Counts} {w0 : List ℕ} {c sp len o : ℕ} {B : List ℕ} {b : Bool} (I : IsA st w0 o c b) where
-  pub with_yes : {A : List ℕ} {f : Formed} → b ≡ true → o < 96 → Appends (simple.Object o) sp (sp + len) B A f → WithObject st w0 c sp len o B A f
+  pub with_yes : {A : List ℕ} {f : Optional ℕ} → b ≡ true → o < 96 → Appends (simple.Object o) sp (sp + len) B A f → WithObject st w0 c sp len o B A f
   unfolding instances
   with_yes e h P = record {
     small = P.small;
     is = λ m H l. rw (← I.is m H, e) (P.is as_set (instances m c o) (obj o) l.fits (fits_obj (omega arith)) means_obj l.cells);
   }
 
-  pub with_no : b ≡ false → 1 ≤ len → len ≤ 128 → sp ≤ length B → WithObject st w0 c sp len o B B (formed.Done len)
+  pub with_no : b ≡ false → 1 ≤ len → len ≤ 128 → sp ≤ length B → WithObject st w0 c sp len o B B (Some len)
   unfolding instances
   with_no e one small room = record { small = (one, small); is = λ m H l. rw (← I.is m H, e) (lies_forms B l under_refl small room) }
 
@@ -133,8 +132,8 @@ gathered_none {sp = sp} {x = x} B E h = record {
   kept = λ m H. under_refl;
 }
 
-module _ {st : Counts} {w0 : List ℕ} {c sp len o : ℕ} {S₀ S S' : List ℕ} {f : Formed} (G : Gathered st w0 c sp S₀ S len o) (W : WithObject st w0 c sp len o S S' f) where
-  pub gathered_more : {n : ℕ} → f ≡ formed.Done n → length S' ≡ length S → sp ≤ length S → o < st.objects → Gathered st w0 c sp S₀ S' n (o + 1)
+module _ {st : Counts} {w0 : List ℕ} {c sp len o : ℕ} {S₀ S S' : List ℕ} {f : Optional ℕ} (G : Gathered st w0 c sp S₀ S len o) (W : WithObject st w0 c sp len o S S' f) where
+  pub gathered_more : {n : ℕ} → f ≡ Some n → length S' ≡ length S → sp ≤ length S → o < st.objects → Gathered st w0 c sp S₀ S' n (o + 1)
   gathered_more {n} e k room h =
       let s : (1 ≤ n) × (n ≤ 128) = rw e at W.small in
       record {
@@ -147,14 +146,14 @@ module _ {st : Counts} {w0 : List ℕ} {c sp len o : ℕ} {S₀ S S' : List ℕ}
       }
 
   -- the Set of all objects is never too large
-  pub gathered_over : {B : List ℕ} → f ≡ formed.Over → o < 96 → Instances st w0 c sp B S' f
+  pub gathered_over : {B : List ℕ} → f ≡ None → o < 96 → Instances st w0 c sp B S' f
   unfolding size
   gathered_over {B} e h = record {
     small = W.small;
     is = λ m H. absurd (let a = over_size (W.is m H (G.lies m H)) e in let b = instances_few m c (suc o) in omega arith);
   }
 
-pub gathered_all : {st : Counts} {w0 : List ℕ} {c sp len o : ℕ} (B : List ℕ) (x : ℕ) {S : List ℕ} → Gathered st w0 c sp (set B sp x) S len o → st.objects ≤ o → sp ≤ length B → Instances st w0 c sp B S (formed.Done len)
+pub gathered_all : {st : Counts} {w0 : List ℕ} {c sp len o : ℕ} (B : List ℕ) (x : ℕ) {S : List ℕ} → Gathered st w0 c sp (set B sp x) S len o → st.objects ≤ o → sp ≤ length B → Instances st w0 c sp B S (Some len)
 gathered_all {sp = sp} {o = o} B x G h room = record {
   small = (G.some, G.small);
   is = λ m H.
@@ -186,7 +185,7 @@ module _ {st : Counts} {w0 env : List ℕ} (k x : ℕ) {sp s : ℕ} {B : List �
   unfolding leaf_for leaf_of leaf_run
   leaf_var e q x₁ = record { small = x₁.small; ran = λ w ok ρ rel. rw (e, ← q) (x₁.ran ρ rel) }
 
-  pub leaf_all : {A : List ℕ} (f : Formed) {r : Ended} → k ≡ 6 → sp ≤ length B → Instances st w0 (x % 256) sp B A f → r ≡ formed_as f s → Evals (ModelIn st w0) (leaf_for k x) env sp s B A r
+  pub leaf_all : {A : List ℕ} (f : Optional ℕ) {r : Ended} → k ≡ 6 → sp ≤ length B → Instances st w0 (x % 256) sp B A f → r ≡ formed_as f s → Evals (ModelIn st w0) (leaf_for k x) env sp s B A r
   unfolding leaf_for leaf_of leaf_run
   leaf_all f e room N q = rw q (record { small = formed_small f s N.small; ran = λ w ok ρ rel. rw e (formed_ran B s room (N.is w.model ok.holds)) })
 

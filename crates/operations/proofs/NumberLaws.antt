@@ -14,21 +14,15 @@ use Rattle.reals.specs.Words.{cell}
 use Rattle.reals.proofs.Laws.{number_laws, word_laws}
 use Rattle.floats.specs.Meanings.{computed_of, Sound, SoundWhole, SoundResult, IntegerIn, IntegerCell, NumberOf, CellOf, operation_of, Calculates as Operates}
 use Rattle.floats.specs.declared.Number.{Number as Coded}
-use Rattle.floats.specs.declared.Whole.{Whole}
-use Rattle.floats.specs.declared.Whole.TheVariants as whole
-use Rattle.floats.specs.declared.Computed.{Computed as Settling}
-use Rattle.floats.specs.declared.Computed.TheVariants as computed
 use Rattle.ocl.specs.Values.{Value, bool, num, obj, coll, sort}
 use Rattle.ocl.specs.Marks.{Scale, integers, reals, scale_marked}
 use Rattle.ocl.specs.Forms.{Arith, Division, arith as calculation, divide, less as less_form, over as over_form}
 use Rattle.ocl.specs.Operations.{Outcome, value, stuck, on_int, on_num, on_two, resulting, arithmetic, division, operation_of as widened_of, on_scale, binary_apply, is_int, is_num}
 use Rattle.ocl.proofs.Ends.{Results, results, arithmetic_all, division_all, calculated_all}
 use Rattle.values.specs.Cells.{bias, head, Fits, fits_bool, fits_num}
-use Rattle.values.specs.Meanings.{means_bool, SortOf, IntegerTest}
+use Rattle.values.specs.Meanings.{means_bool, SortOf}
 use Rattle.values.specs.Integers.{num_of, Calculates, Divides, arith_of}
 use Rattle.values.specs.declared.Simple.TheVariants as simple
-use Rattle.values.specs.declared.IntegerResult.{IntegerResult}
-use Rattle.values.specs.declared.IntegerResult.TheVariants as num-in
 use Rattle.values.proofs.Heads.{shape, bias_small}
 use Rattle.nodes.specs.Marks.{Marked, scale_in}
 use Rattle.outcomes.specs.declared.Ended.{Ended}
@@ -38,6 +32,9 @@ use Rattle.operations.specs.Operations.{AnyMark, OfTwo, of_integers, of_numbers,
 use Rattle.outcomes.proofs.Words.{head_at_lem}
 use Rattle.operations.proofs.Sorts.{no_ints, no_int, is_int_lem, int_stuck, no_nums, no_num, is_num_lem, num_stuck, num_test}
 use Rattle.operations.proofs.OperationLaws.{ran_stuck, ran_undefined, ran_stop}
+use Rattle.std.specs.Prelude.{Option as Optional, Some, None, Result as Fallible, Ok, Err}
+use Rattle.floats.specs.declared.NoNumber.{NoNumber}
+use Rattle.floats.specs.declared.NoNumber.TheVariants.{OverRange, Undefined}
 
 -- ---- what an operation came to
 
@@ -49,18 +46,18 @@ data Held : Value → Type 0 where
   held_num : {x : Number} → T (kept x) → Held (num x)
 
 module _ {sp s : ℕ} {B : List ℕ} where
-  calculated_by : {c : IntegerResult} {A : List ℕ} {r : Ended} → SmallAnswer r → ((x : Result) → Results Ranged x → c ≡ num_of x → Ran (resulting x s) sp B A r) → Calculated c sp s B A r
+  calculated_by : {c : Fallible ℕ NoNumber} {A : List ℕ} {r : Ended} → SmallAnswer r → ((x : Result) → Results Ranged x → c ≡ num_of x → Ran (resulting x s) sp B A r) → Calculated c sp s B A r
   calculated_by m g = record {
     small = m;
     arith = λ o x y e. g (arithmetic o x y) (arithmetic_all Ranged (λ z h. ranged_int h) o x y) e;
     divide = λ o x y e. g (division o x y) (division_all Ranged (λ z h. ranged_int h) o x y) e;
   }
 
-  pub calculated_is : {x : IntegerResult} {n c : ℕ} {A : List ℕ} {r : Ended} → x ≡ num-in.Is n → IntegerCell (n % 4294967296) c → GivesCell c sp s B A r → Calculated x sp s B A r
+  pub calculated_is : {x : Fallible ℕ NoNumber} {n c : ℕ} {A : List ℕ} {r : Ended} → x ≡ Ok n → IntegerCell (n % 4294967296) c → GivesCell c sp s B A r → Calculated x sp s B A r
   unfolding num_of kept head sort
   calculated_is {n = n} {A = A} {r = r} q C G = rw q (calculated_by G.small by)
     where
-      by : (x : Result) → Results Ranged x → num-in.Is n ≡ num_of x → Ran (resulting x s) sp B A r
+      by : (x : Result) → Results Ranged x → Ok n ≡ num_of x → Ran (resulting x s) sp B A r
       by (result x) (results (ranged_int {z} h)) e =
           let m : n ≡ bias z = cc in
           let k = bias_small z h in
@@ -68,73 +65,73 @@ module _ {sp s : ℕ} {B : List ℕ} where
       by no_result h e = absurd (let z : ◌≡◌ {A = ℕ} 0 1 = cc in omega arith)
       by over_range h e = absurd (let z : ◌≡◌ {A = ℕ} 0 1 = cc in omega arith)
 
-  pub calculated_undefined : {x : IntegerResult} → x ≡ num-in.Undef → Calculated x sp s B B (ended.Undef s)
+  pub calculated_undefined : {x : Fallible ℕ NoNumber} {e : NoNumber} → x ≡ Err e → e ≡ Undefined → Calculated x sp s B B (ended.Undef s)
   unfolding num_of
-  calculated_undefined q = rw q (calculated_by tt by)
+  calculated_undefined q p = rw (q, p) (calculated_by tt by)
     where
-      by : (x : Result) → Results Ranged x → num-in.Undef ≡ num_of x → Ran (resulting x s) sp B B (ended.Undef s)
+      by : (x : Result) → Results Ranged x → Err Undefined ≡ num_of x → Ran (resulting x s) sp B B (ended.Undef s)
       by (result x) (results (ranged_int h)) e = absurd (let z : ◌≡◌ {A = ℕ} 0 1 = cc in omega arith)
       by no_result h e = ran_undefined
       by over_range h e = absurd (let z : ◌≡◌ {A = ℕ} 0 1 = cc in omega arith)
 
-  pub calculated_over : {x : IntegerResult} → x ≡ num-in.Over → Calculated x sp s B B (ended.Stop 19 s)
+  pub calculated_over : {x : Fallible ℕ NoNumber} {e : NoNumber} → x ≡ Err e → e ≡ OverRange → Calculated x sp s B B (ended.Stop 19 s)
   unfolding num_of
-  calculated_over q = rw q (calculated_by tt by)
+  calculated_over q p = rw (q, p) (calculated_by tt by)
     where
-      by : (x : Result) → Results Ranged x → num-in.Over ≡ num_of x → Ran (resulting x s) sp B B (ended.Stop 19 s)
+      by : (x : Result) → Results Ranged x → Err OverRange ≡ num_of x → Ran (resulting x s) sp B B (ended.Stop 19 s)
       by (result x) (results (ranged_int h)) e = absurd (let z : ◌≡◌ {A = ℕ} 0 1 = cc in omega arith)
       by no_result h e = absurd (let z : ◌≡◌ {A = ℕ} 0 1 = cc in omega arith)
       by over_range h e = ran_stop
 
-  settled_by : {c : Settling} {A : List ℕ} {r : Ended} → SmallAnswer r → ((x : Result) → Results Held x → c ≡ computed_of x → Ran (resulting x s) sp B A r) → Settled c sp s B A r
+  settled_by : {c : Fallible Coded NoNumber} {A : List ℕ} {r : Ended} → SmallAnswer r → ((x : Result) → Results Held x → c ≡ computed_of x → Ran (resulting x s) sp B A r) → Settled c sp s B A r
   settled_by m g = record { small = m; is = λ o x y e. g (calculated o x y) (calculated_all Held (λ z h. held_num h) o x y) e }
 
-  pub settled_is : {x : Settling} {n : Coded} {c : ℕ} {A : List ℕ} {r : Ended} → x ≡ computed.Is n → CellOf n c → GivesCell c sp s B A r → Settled x sp s B A r
+  pub settled_is : {x : Fallible Coded NoNumber} {n : Coded} {c : ℕ} {A : List ℕ} {r : Ended} → x ≡ Ok n → CellOf n c → GivesCell c sp s B A r → Settled x sp s B A r
   unfolding computed_of head sort
   settled_is {n = n} {A = A} {r = r} q C G = rw q (settled_by G.small by)
     where
-      by : (x : Result) → Results Held x → computed.Is n ≡ computed_of x → Ran (resulting x s) sp B A r
+      by : (x : Result) → Results Held x → Ok n ≡ computed_of x → Ran (resulting x s) sp B A r
       by (result x) (results (held_num h)) e = G.is (num x) (fits_num h) (omega arith) (C.is x h cc)
       by no_result h e = absurd (let z : ◌≡◌ {A = ℕ} 0 1 = cc in omega arith)
       by over_range h e = absurd (let z : ◌≡◌ {A = ℕ} 0 1 = cc in omega arith)
 
-  pub settled_undefined : {x : Settling} → x ≡ computed.Undef → Settled x sp s B B (ended.Undef s)
+  pub settled_undefined : {x : Fallible Coded NoNumber} {e : NoNumber} → x ≡ Err e → e ≡ Undefined → Settled x sp s B B (ended.Undef s)
   unfolding computed_of
-  settled_undefined q = rw q (settled_by tt by)
+  settled_undefined q p = rw (q, p) (settled_by tt by)
     where
-      by : (x : Result) → Results Held x → computed.Undef ≡ computed_of x → Ran (resulting x s) sp B B (ended.Undef s)
+      by : (x : Result) → Results Held x → Err Undefined ≡ computed_of x → Ran (resulting x s) sp B B (ended.Undef s)
       by (result x) h e = absurd (let z : ◌≡◌ {A = ℕ} 0 1 = cc in omega arith)
       by no_result h e = ran_undefined
       by over_range h e = absurd (let z : ◌≡◌ {A = ℕ} 0 1 = cc in omega arith)
 
-  pub settled_over : {x : Settling} → x ≡ computed.Over → Settled x sp s B B (ended.Stop 19 s)
+  pub settled_over : {x : Fallible Coded NoNumber} {e : NoNumber} → x ≡ Err e → e ≡ OverRange → Settled x sp s B B (ended.Stop 19 s)
   unfolding computed_of
-  settled_over q = rw q (settled_by tt by)
+  settled_over q p = rw (q, p) (settled_by tt by)
     where
-      by : (x : Result) → Results Held x → computed.Over ≡ computed_of x → Ran (resulting x s) sp B B (ended.Stop 19 s)
+      by : (x : Result) → Results Held x → Err OverRange ≡ computed_of x → Ran (resulting x s) sp B B (ended.Stop 19 s)
       by (result x) h e = absurd (let z : ◌≡◌ {A = ℕ} 0 1 = cc in omega arith)
       by no_result h e = absurd (let z : ◌≡◌ {A = ℕ} 0 1 = cc in omega arith)
       by over_range h e = ran_stop
 
-pub result_sound : {x : Settling} {n : Coded} → SoundResult x → x ≡ computed.Is n → Sound n
+pub result_sound : {x : Fallible Coded NoNumber} {n : Coded} → SoundResult x → x ≡ Ok n → Sound n
 result_sound h e = rw e at h
 
 -- ---- two operands
 
-pub whole_narrow : {t : Whole} {n : ℕ} → SoundWhole t → t ≡ whole.Is n → n < 4294967296
+pub whole_narrow : {t : Optional ℕ} {n : ℕ} → SoundWhole t → t ≡ Some n → n < 4294967296
 whole_narrow h e = rw e at h
 
 module _ {sp la lb s : ℕ} {B : List ℕ} where
-  pub ints_left : {t : Whole} (f : ℤ → ℤ → Result) → IntegerIn (get_or B sp 0) t → t ≡ whole.No → OfTwo AnyMark (of_integers f) sp la lb s B B ended.Stuck
+  pub ints_left : {t : Optional ℕ} (f : ℤ → ℤ → Result) → IntegerIn (get_or B sp 0) t → t ≡ None → OfTwo AnyMark (of_integers f) sp la lb s B B ended.Stuck
   unfolding of_integers
   ints_left f I q = record { small = tt; ran = λ m M v w l k. rw (no_int l I q (λ x. on_int w (λ y. resulting (f x y) s))) ran_stuck }
 
-  pub ints_right : {u : Whole} (f : ℤ → ℤ → Result) → IntegerIn (get_or B (sp + la) 0) u → u ≡ whole.No → OfTwo AnyMark (of_integers f) sp la lb s B B ended.Stuck
+  pub ints_right : {u : Optional ℕ} (f : ℤ → ℤ → Result) → IntegerIn (get_or B (sp + la) 0) u → u ≡ None → OfTwo AnyMark (of_integers f) sp la lb s B B ended.Stuck
   unfolding of_integers
   ints_right f J q = record { small = tt; ran = λ m M v w l k. rw (no_ints v w (λ x y. resulting (f x y) s) (no_int k J q)) ran_stuck }
 
-  module _ {t u : Whole} {p q : ℕ} (I : IntegerIn (get_or B sp 0) t) (e : t ≡ whole.Is p) (J : IntegerIn (get_or B (sp + la) 0) u) (f : u ≡ whole.Is q) where
-    pub arith_done : {o : Arith} {c : IntegerResult} {A : List ℕ} {r : Ended} → Calculates o p q c → Calculated c sp s B A r → OfTwo AnyMark (of_integers (arithmetic o)) sp la lb s B A r
+  module _ {t u : Optional ℕ} {p q : ℕ} (I : IntegerIn (get_or B sp 0) t) (e : t ≡ Some p) (J : IntegerIn (get_or B (sp + la) 0) u) (f : u ≡ Some q) where
+    pub arith_done : {o : Arith} {c : Fallible ℕ NoNumber} {A : List ℕ} {r : Ended} → Calculates o p q c → Calculated c sp s B A r → OfTwo AnyMark (of_integers (arithmetic o)) sp la lb s B A r
     unfolding of_integers
     arith_done {o} C G = record {
       small = G.small;
@@ -143,7 +140,7 @@ module _ {sp la lb s : ℕ} {B : List ℕ} where
           rw (i.is, j.is) (G.arith o i.z j.z (C.is i.z j.z i.ranged j.ranged i.biased j.biased));
     }
 
-    pub divide_done : {o : Division} {c : IntegerResult} {A : List ℕ} {r : Ended} → Divides o p q c → Calculated c sp s B A r → OfTwo AnyMark (of_integers (division o)) sp la lb s B A r
+    pub divide_done : {o : Division} {c : Fallible ℕ NoNumber} {A : List ℕ} {r : Ended} → Divides o p q c → Calculated c sp s B A r → OfTwo AnyMark (of_integers (division o)) sp la lb s B A r
     unfolding of_integers
     divide_done {o} C G = record {
       small = G.small;
@@ -164,7 +161,7 @@ module _ {sp la lb s : ℕ} {B : List ℕ} where
     unfolding of_numbers
     nums_right o n = record { small = tt; ran = λ m M v w l k. rw (no_nums v w (λ x y. resulting (calculated o x y) s) (no_num k R n)) ran_stuck }
 
-    pub nums_done : {t : ℕ} {a b : Coded} {o : Operation} {c : Settling} {A : List ℕ} {r : Ended} → SortOf (get_or B sp 0) t → t ≡ 1 → u ≡ 1 → NumberOf (get_or B sp 0) a → NumberOf (get_or B (sp + la) 0) b
+    pub nums_done : {t : ℕ} {a b : Coded} {o : Operation} {c : Fallible Coded NoNumber} {A : List ℕ} {r : Ended} → SortOf (get_or B sp 0) t → t ≡ 1 → u ≡ 1 → NumberOf (get_or B sp 0) a → NumberOf (get_or B (sp + la) 0) b
         → Operates o a b c → Settled c sp s B A r → OfTwo AnyMark (of_numbers o) sp la lb s B A r
     unfolding of_numbers head
     nums_done {o = o} S e f X Y C G = record {
@@ -190,9 +187,6 @@ codes (suc (suc (suc n))) h = absurd (omega arith)
 module _ {mark : ℕ} {b : Bool} (G : GoesByReals mark b) where
   pub scale_reals : {cell t : ℕ} → b ≡ true → SortOf cell t → FitsScale mark cell (eqb t 1)
   scale_reals q S = record { is = λ m M v f h. num_test (shape f (S.is v f h) (λ n. refl)) ∙ sym (ap (λ (x : Scale). on_scale x v) (M.scale ∙ G.yes q)) }
-
-  pub scale_integers : {cell : ℕ} {r : Bool} → b ≡ false → IntegerTest cell r → FitsScale mark cell r
-  scale_integers q I = record { is = λ m M v f h. I.is v f h ∙ sym (ap (λ (x : Scale). on_scale x v) (M.scale ∙ G.no q)) }
 
   module _ {sp la lb s : ℕ} {B A : List ℕ} {r : Ended} where
     pub by_integers : (o : Arith) → b ≡ false → OfTwo AnyMark (of_integers (arithmetic o)) sp la lb s B A r → OfTwo (Marked mark) (λ m. binary_apply m (calculation o)) sp la lb s B A r

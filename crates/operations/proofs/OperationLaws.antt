@@ -18,7 +18,6 @@ use Rattle.ocl.proofs.Values.{count_sizes}
 use Rattle.values.specs.Cells.{bias, fits_bool, fits_num}
 use Rattle.values.specs.Meanings.{means_bool, means_int, SortOf, PayloadOf, Converts}
 use Rattle.values.specs.declared.Simple.TheVariants as simple
-use Rattle.values.specs.declared.Formed.{Formed}
 use Rattle.values.proofs.Heads.{Shape, shape_bool, shape_num, shape_obj, shape_coll}
 use Rattle.nodes.specs.Nodes.{unary_of}
 use Rattle.tables.specs.declared.Counts.{Counts}
@@ -31,6 +30,7 @@ use Rattle.operations.specs.Operations.{AnyModel, OfOne, kind_for, unary_for}
 use Rattle.outcomes.proofs.Words.{under_refl, head_at_lem, formed_small, formed_ran}
 use Rattle.operations.proofs.Sorts.{no_bool, is_bool, bit_zero, no_coll, IsColl, is_coll_lem, count_is, sorted, known, truth_t}
 use Rattle.outcomes.proofs.Lookups.{is_object}
+use Rattle.std.specs.Prelude.{Option as Optional}
 
 -- ---- answers with no cells of their own
 
@@ -78,7 +78,7 @@ module _ {sp s len : ℕ} {B : List ℕ} where
     unfolding unary_apply
     change_stuck k h = record { small = tt; ran = λ m ok v l. rw (no_coll l S h (λ j vs. form (coll k (add_all k vs nil)) s)) ran_stuck }
 
-    pub change_done : {kind : ℕ} {A : List ℕ} (f : Formed) {r : Ended} → 3 ≤ t → kind ≡ kind_code (kind_for kind) → sp ≤ length B → Converts kind sp (sp + len) B A f → r ≡ formed_as f s
+    pub change_done : {kind : ℕ} {A : List ℕ} (f : Optional ℕ) {r : Ended} → 3 ≤ t → kind ≡ kind_code (kind_for kind) → sp ≤ length B → Converts kind sp (sp + len) B A f → r ≡ formed_as f s
         → OfOne AnyModel (λ m. unary_apply m (convert (kind_for kind))) sp len s B A r
     unfolding unary_apply
     change_done {kind} f h c room C q = rw q (record {

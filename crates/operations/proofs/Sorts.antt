@@ -13,14 +13,13 @@ use Rattle.ocl.specs.Values.{Value, bool, num, obj, coll, Values, count}
 use Rattle.reals.specs.Reals.{Number, int, real, in_range, kept}
 use Rattle.ocl.specs.Operations.{Outcome, stuck, on_bool, on_int, on_num, on_coll, is_int, is_num, is_coll}
 use Rattle.floats.specs.Meanings.{IntegerIn}
-use Rattle.floats.specs.declared.Whole.{Whole}
-use Rattle.floats.specs.declared.Whole.TheVariants as whole
 use Rattle.values.specs.Cells.{bit, bias, payload, AllFit}
 use Rattle.values.specs.Meanings.{SortOf, PayloadOf}
 use Rattle.values.proofs.Heads.{shape, Shape, shape_bool, shape_num, shape_obj, shape_coll}
 use Rattle.values.proofs.Scanning.{Integral, integral, no_integral, integral_of}
 use Rattle.outcomes.specs.Answers.{Lies, truth_of}
 use Rattle.outcomes.proofs.Words.{head_at_lem}
+use Rattle.std.specs.Prelude.{Option as Optional, Some, None}
 
 -- ---- truth values
 
@@ -182,8 +181,8 @@ num_stuck (obj o) e k = refl
 num_stuck (coll c vs) e k = refl
 
 -- the value at p, by what was found in its first cell
-module _ {v : Value} {p len : ℕ} {S : List ℕ} {t : Whole} (l : Lies v p len S) (I : IntegerIn (get_or S p 0) t) where
-  pub no_int : t ≡ whole.No → (k : ℤ → Outcome) → on_int v k ≡ stuck
+module _ {v : Value} {p len : ℕ} {S : List ℕ} {t : Optional ℕ} (l : Lies v p len S) (I : IntegerIn (get_or S p 0) t) where
+  pub no_int : t ≡ None → (k : ℤ → Outcome) → on_int v k ≡ stuck
   no_int q k = by (integral_of I l.fits (head_at_lem l))
     where
       by : {v : Value} → Integral t v → on_int v k ≡ stuck
@@ -196,7 +195,7 @@ module _ {v : Value} {p len : ℕ} {S : List ℕ} {t : Whole} (l : Lies v p len 
     pub biased : n ≡ bias z
     pub ranged : T (in_range z)
 
-  pub is_int_lem : {n : ℕ} → t ≡ whole.Is n → IsInt n
+  pub is_int_lem : {n : ℕ} → t ≡ Some n → IsInt n
   is_int_lem {n} q = by (integral_of I l.fits (head_at_lem l)) refl
     where
       by : {w : Value} → Integral t w → v ≡ w → IsInt n

@@ -8,7 +8,7 @@ use native.Mathlib.Omega.{arith}
 use lib.ListN.{length, get_or}
 use lib.Seq.{slice}
 use Rattle.laws.specs.Choice.{on_some, map_some}
-use Rattle.std.specs.Prelude.{if◌then◌else◌}
+use Rattle.std.specs.Prelude.{if◌then◌else◌, Option as Optional, Some, None}
 use Rattle.ocl.specs.Values.{Value, obj, Values, nil, cons, size}
 use Rattle.ocl.specs.Model.{Model, every}
 use Rattle.ocl.specs.Operations.{has_row, value_in_row, values_in_row}
@@ -18,8 +18,6 @@ use Rattle.values.proofs.Encoding.{size_law}
 use Rattle.values.proofs.Members.{Left, next_member, none_left}
 use Rattle.tables.specs.declared.Counts.{Counts}
 use Rattle.tables.specs.Stored.{HoldsModel}
-use Rattle.outcomes.specs.declared.Place.{Place}
-use Rattle.outcomes.specs.declared.Place.TheVariants as place
 use Rattle.outcomes.specs.Answers.{Lies}
 use Rattle.outcomes.specs.Tables.{Plain, HasRow, RowSlot}
 use Rattle.operations.specs.Collect.{if_none, standing, worst, StandingOf, WorstOf}
@@ -45,13 +43,13 @@ module _ {st : Counts} {w0 : List ℕ} {i cell : ℕ} {b : Bool} (h : HasRow st 
           rw (q, x.is) (g m H x.o f' d');
     }
 
-    pub standing_some : {x : Place} {j : ℕ} → RowSlot st w0 i cell x → x ≡ place.At j → StandingOf st w0 i cell 0
+    pub standing_some : {x : Optional ℕ} {j : ℕ} → RowSlot st w0 i cell x → x ≡ Some j → StandingOf st w0 i cell 0
     unfolding if_none
-    standing_some {x} {j} F y = let a : RowSlot st w0 i cell (place.At j) = rw y at F in on_object_lem (λ m H o f d. let t = a.1 m H o f d in rw t.1.0)
+    standing_some {x} {j} F y = let a : RowSlot st w0 i cell (Some j) = rw y at F in on_object_lem (λ m H o f d. let t = a.1 m H o f d in rw t.1.0)
 
-    pub standing_none : {x : Place} → RowSlot st w0 i cell x → x ≡ place.Nowhere → StandingOf st w0 i cell 1
+    pub standing_none : {x : Optional ℕ} → RowSlot st w0 i cell x → x ≡ None → StandingOf st w0 i cell 1
     unfolding if_none
-    standing_none F y = let a : RowSlot st w0 i cell place.Nowhere = rw y at F in on_object_lem (λ m H o f d. rw (a m H o f d))
+    standing_none F y = let a : RowSlot st w0 i cell None = rw y at F in on_object_lem (λ m H o f d. rw (a m H o f d))
 
 -- ---- the worst of members
 

@@ -1,5 +1,5 @@
 -- What the contracts of the strict forms say: whatever values lie at these places, the outcome is the definition's.
-use Rattle.std.specs.Prelude.{◌≡◌, Bool, true, false, List, ℕ, zero, suc, ◌+◌, ℤ}
+use Rattle.std.specs.Prelude.{◌≡◌, Bool, true, false, List, ℕ, zero, suc, ◌+◌, ℤ, Result as Fallible}
 use Rattle.ocl.specs.Types.{Kind, set, sequence, bag}
 use Rattle.ocl.specs.Values.{Value}
 use Rattle.ocl.specs.Model.{Model}
@@ -8,10 +8,10 @@ use Rattle.ocl.specs.Forms.{Unary, Arith, Division}
 use Rattle.ocl.specs.Operations.{Outcome, on_int, on_num, resulting, arithmetic, division, on_scale, left_fits}
 use Rattle.reals.specs.Reals.{Number, Operation, Result, calculated}
 use Rattle.floats.specs.Meanings.{computed_of}
-use Rattle.floats.specs.declared.Computed.{Computed as Settling}
+use Rattle.floats.specs.declared.Number.{Number as Coded}
+use Rattle.floats.specs.declared.NoNumber.{NoNumber}
 use Rattle.values.specs.Cells.{head, Fits}
 use Rattle.values.specs.Integers.{num_of}
-use Rattle.values.specs.declared.IntegerResult.{IntegerResult}
 use Rattle.nodes.specs.Nodes.{unary_of, binary_of}
 use Rattle.nodes.specs.Marks.{Marked, scale_in}
 use Rattle.outcomes.specs.declared.Ended.{Ended}
@@ -43,13 +43,13 @@ unfoldable pub of_numbers : Operation → Mark → Value → Value → ℕ → O
 of_numbers o k v w n = on_num v (λ x. on_num w (λ y. resulting (calculated o x y) n))
 
 -- what arithmetic on Integers came to, as an answer
-pub record Calculated (c : IntegerResult) (sp s : ℕ) (B A : List ℕ) (r : Ended) : Type 0 where
+pub record Calculated (c : Fallible ℕ NoNumber) (sp s : ℕ) (B A : List ℕ) (r : Ended) : Type 0 where
   pub small : SmallAnswer r
   pub arith : (o : Arith) (x y : ℤ) → c ≡ num_of (arithmetic o x y) → Ran (resulting (arithmetic o x y) s) sp B A r
   pub divide : (o : Division) (x y : ℤ) → c ≡ num_of (division o x y) → Ran (resulting (division o x y) s) sp B A r
 
 -- and what a binary64 operation came to
-pub record Settled (c : Settling) (sp s : ℕ) (B A : List ℕ) (r : Ended) : Type 0 where
+pub record Settled (c : Fallible Coded NoNumber) (sp s : ℕ) (B A : List ℕ) (r : Ended) : Type 0 where
   pub small : SmallAnswer r
   pub is : (o : Operation) (x y : Number) → c ≡ computed_of (calculated o x y) → Ran (resulting (calculated o x y) s) sp B A r
 

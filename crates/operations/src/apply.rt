@@ -136,9 +136,10 @@ fn fits_scale(mark: u64, cell: u64) -> bool
     ensures { FitsScale mark cell result }
 {
     if by_reals(mark) {
-        return sort_of(cell) == NUMBER;
+        sort_of(cell) == NUMBER
+    } else {
+        is_integer(cell)
     }
-    is_integer(cell)
 }
 
 // Whether the form with this code accepts a value with this first cell as its left operand.
@@ -171,12 +172,11 @@ fn compared(mark: u64, stack: &mut [u64], sp: usize, la: usize, lb: usize, steps
 {
     let x = stack[sp];
     let y = stack[sp + la];
-    if fits_scale(mark, x) {
-        if fits_scale(mark, y) {
-            return put(stack, sp, Simple::Bool { b: x < y }, steps);
-        }
+    if fits_scale(mark, x) && fits_scale(mark, y) {
+        put(stack, sp, Simple::Bool { b: x < y }, steps)
+    } else {
+        Ended::Stuck
     }
-    Ended::Stuck
 }
 
 // `plus` (0), `minus` (1), `times` (2)
@@ -228,10 +228,7 @@ fn united(stack: &mut [u64], sp: usize, la: usize, lb: usize, steps: u64) -> End
     ensures { OfTwo AnyMark (λ k. binary_apply k unionForm) sp la lb steps stack.old stack.new result }
 {
     let sort = sort_of(stack[sp]);
-    if sort < SET {
-        return Ended::Stuck;
-    }
-    if sort_of(stack[sp + la]) != sort {
+    if sort < SET || sort_of(stack[sp + la]) != sort {
         return Ended::Stuck;
     }
     formed(union(stack, sp, sp + la, sp + la + lb), steps)

@@ -9,9 +9,9 @@ ghost use Rattle.outcomes.specs.Tables.{Bounds, Accesses};
 ghost use Rattle.operations.specs.Collect.{StandingOf, WorstOf, BringsAll};
 
 use memory::words::larger;
+use outcomes::Ended;
 use outcomes::answers::formed;
 use outcomes::lookup::{bring, has_row, row_slot};
-use outcomes::{Ended, Place};
 use tables::Counts;
 use values::cells::{LARGEST, SET, skip, sort_of};
 use values::collections::assemble;
@@ -28,8 +28,8 @@ fn standing(tables: &[u64], st: Counts, i: u64, cell: u64) -> u64
     if has_row(tables, st, i, cell) {
         let slot = row_slot(tables, st, i, cell);
         match slot {
-            Place::At { j: _ } => 0,
-            Place::Nowhere => 1,
+            Some(_) => 0,
+            None => 1,
         }
     } else {
         2
@@ -68,9 +68,8 @@ fn bring_all(
     ensures { BringsAll st tables.now i from end steps stack.old stack.new result }
 {
     let mut len: usize = 0;
-    let mut q = from;
-    while q < end {
-        let Place::At { j } = row_slot(tables, st, i, stack[q]) else {
+    for q in from..end {
+        let Some(j) = row_slot(tables, st, i, stack[q]) else {
             return Ended::Undef { steps };
         };
         let one = bring(tables, st, j, stack, end + len, steps);
@@ -81,7 +80,6 @@ fn bring_all(
         if MOST < len {
             return Ended::Stop { number: 17, steps };
         }
-        q += 1;
     }
     Ended::Value { len, steps }
 }

@@ -4,23 +4,22 @@ ghost use Rattle.ocl.specs.Operations.{arithmetic as arithmeticOf, division as d
 ghost use Rattle.values.specs.Integers.{arith_of, division_of};
 ghost use Rattle.operations.specs.Operations.{AnyMark, OfTwo, of_integers, Calculated};
 
-use floats::Whole;
+use floats::NoNumber;
 use floats::cells::{integer_cell, integer_in};
 use floats::numbers::END;
 use outcomes::Ended;
 use outcomes::answers::put_cell;
-use values::IntegerResult;
 use values::arith::{calculate, divide};
 
 // What arithmetic came to, as an answer: a result goes to sp, and over the range is stop 19.
-fn calculated(c: IntegerResult, stack: &mut [u64], sp: usize, steps: u64) -> Ended
+fn calculated(c: Result<u64, NoNumber>, stack: &mut [u64], sp: usize, steps: u64) -> Ended
     requires { sp < length stack.old }
     ensures { Calculated c sp steps stack.old stack.new result }
 {
     match c {
-        IntegerResult::Is { n } => put_cell(stack, sp, integer_cell(n % END), steps),
-        IntegerResult::Undef => Ended::Undef { steps },
-        IntegerResult::Over => Ended::Stop { number: 19, steps },
+        Ok(n) => put_cell(stack, sp, integer_cell(n % END), steps),
+        Err(NoNumber::Undefined) => Ended::Undef { steps },
+        Err(NoNumber::OverRange) => Ended::Stop { number: 19, steps },
     }
 }
 
@@ -29,10 +28,10 @@ pub fn arithmetic(op: u64, stack: &mut [u64], sp: usize, la: usize, lb: usize, s
     requires { (1 ≤ la) × (1 ≤ lb) × (sp + la + lb ≤ length stack.old) }
     ensures { OfTwo AnyMark (of_integers (arithmeticOf (arith_of op))) sp la lb steps stack.old stack.new result }
 {
-    let Whole::Is { n: x } = integer_in(stack[sp]) else {
+    let Some(x) = integer_in(stack[sp]) else {
         return Ended::Stuck;
     };
-    let Whole::Is { n: y } = integer_in(stack[sp + la]) else {
+    let Some(y) = integer_in(stack[sp + la]) else {
         return Ended::Stuck;
     };
     calculated(calculate(op, x, y), stack, sp, steps)
@@ -43,10 +42,10 @@ pub fn division(op: u64, stack: &mut [u64], sp: usize, la: usize, lb: usize, ste
     requires { (1 ≤ la) × (1 ≤ lb) × (sp + la + lb ≤ length stack.old) }
     ensures { OfTwo AnyMark (of_integers (divisionBy (division_of op))) sp la lb steps stack.old stack.new result }
 {
-    let Whole::Is { n: x } = integer_in(stack[sp]) else {
+    let Some(x) = integer_in(stack[sp]) else {
         return Ended::Stuck;
     };
-    let Whole::Is { n: y } = integer_in(stack[sp + la]) else {
+    let Some(y) = integer_in(stack[sp + la]) else {
         return Ended::Stuck;
     };
     calculated(divide(op, x, y), stack, sp, steps)

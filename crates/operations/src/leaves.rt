@@ -13,9 +13,9 @@ use outcomes::Ended;
 use outcomes::answers::{formed, put, put_cell};
 use outcomes::lookup::is_a;
 use tables::Counts;
+use values::Simple;
 use values::cells::{empty_of, push_copy};
 use values::collections::append_simple;
-use values::{Formed, Simple};
 
 // Copies the value of variable i to sp.
 pub fn variable(
@@ -29,14 +29,10 @@ pub fn variable(
     ensures { Variable i env.now sp steps stack.old stack.new result }
 {
     let at = env[i];
-    if at == 0 {
+    if at == 0 || sp < at {
         return Ended::Stuck;
     }
-    let p = at - 1;
-    if sp <= p {
-        return Ended::Stuck;
-    }
-    formed(push_copy(stack, p, sp), steps)
+    formed(push_copy(stack, at - 1, sp), steps)
 }
 
 // Adds object o to the Set in the len cells at sp if the object is of class c or below.
@@ -48,7 +44,7 @@ fn with_object(
     sp: usize,
     len: usize,
     o: u64,
-) -> Formed
+) -> Option<usize>
     requires bounds { Bounds st (length tables.now) × (sp + 256 ≤ length stack.old) }
     requires le_len { (1 ≤ len) × (len ≤ largest) × (o < most_objects) }
     ensures { WithObject st tables.now c sp len o stack.old stack.new result }
@@ -56,27 +52,21 @@ fn with_object(
     if is_a(tables, st, o, c) {
         append_simple(stack, sp, sp + len, Simple::Object { number: o })
     } else {
-        Formed::Done { len }
+        Some(len)
     }
 }
 
 // The Set of all objects of class c or below. They come in ascending order, so that each is added at the end.
-pub fn instances(tables: &[u64], st: Counts, c: u64, stack: &mut [u64], sp: usize) -> Formed
+pub fn instances(tables: &[u64], st: Counts, c: u64, stack: &mut [u64], sp: usize) -> Option<usize>
     requires { Bounds st (length tables.now) × (sp + 256 ≤ length stack.old) }
     ensures { Instances st tables.now c sp stack.old stack.new result }
 {
     stack[sp] = empty_of(0);
     let mut len: usize = 1;
-    let mut o: u64 = 0;
-    while o < st.objects {
-        let f = with_object(tables, st, c, stack, sp, len, o);
-        let Formed::Done { len: n } = f else {
-            return f;
-        };
-        len = n;
-        o += 1;
+    for o in 0..st.objects {
+        len = with_object(tables, st, c, stack, sp, len, o)?;
     }
-    Formed::Done { len }
+    Some(len)
 }
 
 // The form without operands that has this code; word is its literal, variable or class.

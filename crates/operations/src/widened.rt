@@ -3,22 +3,22 @@ ghost use Rattle.std.specs.Prelude.{◌+◌, ◌≤◌, ◌<◌, length};
 ghost use Rattle.floats.specs.Meanings.{SoundResult, operation_of};
 ghost use Rattle.operations.specs.Operations.{AnyMark, OfTwo, of_numbers, Settled};
 
-use floats::Computed;
 use floats::cells::{cell_of, number_of};
 use floats::numbers::calculate;
+use floats::{NoNumber, Number};
 use outcomes::Ended;
 use outcomes::answers::put_cell;
 use values::cells::{NUMBER, sort_of};
 
 // What an operation came to, as an answer: a result goes to sp, and over the range is stop 19.
-fn settled(c: Computed, stack: &mut [u64], sp: usize, steps: u64) -> Ended
+fn settled(c: Result<Number, NoNumber>, stack: &mut [u64], sp: usize, steps: u64) -> Ended
     requires { SoundResult c × (sp < length stack.old) }
     ensures { Settled c sp steps stack.old stack.new result }
 {
     match c {
-        Computed::Is { number } => put_cell(stack, sp, cell_of(number), steps),
-        Computed::Undef => Ended::Undef { steps },
-        Computed::Over => Ended::Stop { number: 19, steps },
+        Ok(number) => put_cell(stack, sp, cell_of(number), steps),
+        Err(NoNumber::Undefined) => Ended::Undef { steps },
+        Err(NoNumber::OverRange) => Ended::Stop { number: 19, steps },
     }
 }
 
@@ -29,10 +29,7 @@ pub fn operation(op: u64, stack: &mut [u64], sp: usize, la: usize, lb: usize, st
 {
     let x = stack[sp];
     let y = stack[sp + la];
-    if sort_of(x) != NUMBER {
-        return Ended::Stuck;
-    }
-    if sort_of(y) != NUMBER {
+    if sort_of(x) != NUMBER || sort_of(y) != NUMBER {
         return Ended::Stuck;
     }
     settled(calculate(op, number_of(x), number_of(y)), stack, sp, steps)

@@ -5,11 +5,18 @@ use mathlib.Core.Option.{Option, none, some}
 use mathlib.Core.List.{List}
 use Prim.Native.Nat.{ℕ, suc, ◌+◌, ◌-◌, ◌*◌, ◌%◌, ◌<◌, ◌≤◌}
 use native.Mathlib.Omega.{arith}
-use lib.ListN.{length, get_or}
-use lib.Seq.{slice}
+use lib.ListN.{length, get_or, take, drop, length-drop}
+use lib.Seq.{slice, length-take-le, get_or-take, get_or-drop}
 use lib.Dec.{eqb}
 use borrow.Author.Tests.{lt-ltb, le-ltb, eq-eqb, ne_eqb, eqb-true, eqb-false}
-use Rattle.std.specs.Prelude.{if◌then◌else◌}
+use Rattle.std.specs.Prelude.{if◌then◌else◌, Result as Fallible, Ok, Err, Option as Optional, Some, None}
+use Rattle.std.specs.List.{HoldsAt}
+use Rattle.std.specs.Result.{result_ok}
+use Rattle.std.specs.List.Sorted.{IsSearchInRange, IsBinarySearchResult}
+use Rattle.std.specs.Ordering.{nat_cmp}
+use Rattle.std.proofs.Common.{Equal}
+use Rattle.std.proofs.lemmas.Cmp.{ranked}
+use Rattle.std.proofs.lemmas.List.Sorted.{searched}
 use Rattle.laws.proofs.Orders.{Three, less, same, over, three}
 use Rattle.memory.specs.Map as memory
 use Rattle.ocl.specs.Types.{class, simple_subtype}
@@ -21,7 +28,6 @@ use Rattle.ocl.proofs.Values.{size_pos}
 use Rattle.types.specs.Flat.{parents_in}
 use Rattle.values.specs.Cells.{payload, head, enc, Fits}
 use Rattle.values.specs.Meanings.{SortOf, PayloadOf, Brings}
-use Rattle.values.specs.declared.Formed.{Formed}
 use Rattle.values.proofs.Heads.{shape, Shape, shape_bool, shape_num, shape_obj, shape_coll}
 use Rattle.values.proofs.Forming.{part_size}
 use Rattle.tables.specs.declared.Counts.{Counts}
@@ -30,8 +36,6 @@ use Rattle.tables.specs.Stored.{key_at, start_at, Stored, no_slot, slot, HoldsMo
 use Rattle.tables.proofs.Tables.{tab_at}
 use Rattle.outcomes.specs.declared.Ended.{Ended}
 use Rattle.outcomes.specs.declared.Ended.TheVariants as ended
-use Rattle.outcomes.specs.declared.Place.{Place}
-use Rattle.outcomes.specs.declared.Place.TheVariants as place
 use Rattle.outcomes.specs.Answers.{ends_undefined, ends_stuck, Ran, SmallAnswer, formed_as}
 use Rattle.outcomes.specs.Tables.{Plain, IsA, Owner, FindsSlot, cells_start, SlotHolds, SlotStands, object_of, IsObject, HasRow, RowSlot, Accesses}
 use Rattle.outcomes.proofs.Words.{under_refl, head_at_lem, formed_small, formed_value}
@@ -62,45 +66,39 @@ owner_is {st} {w0} {i} {at} h e = record {
 abbrev pub Ascending : List ℕ → ℕ → Type 0
 Ascending w0 slots = (j k : ℕ) → j < k → k < slots → key_at w0 j < key_at w0 k
 
--- the slots before low are under the key, those from high on are over it
-pub record Between (w0 : List ℕ) (slots key low high : ℕ) : Type 0 where
-  pub up : low ≤ high
-  pub within : high ≤ slots
-  pub under : Ascending w0 slots → (j : ℕ) → j < low → key_at w0 j < key
-  pub above : Ascending w0 slots → (j : ℕ) → high ≤ j → j < slots → key < key_at w0 j
+-- the keys of n slots, as they are searched
+abbrev pub keys_in : List ℕ → ℕ → List ℕ
+keys_in w0 n = take n (drop memory.keys w0)
 
-module _ {w0 : List ℕ} {slots key low high : ℕ} where
-  pub all_open : slots ≡ high → low ≡ 0 → Between w0 slots key low high
-  all_open e f = record { up = omega arith; within = omega arith; under = λ a j h. absurd (omega arith); above = λ a j h k. absurd (omega arith) }
+module _ (w0 : List ℕ) (slots key : ℕ) {n : ℕ} (e : n ≡ slots) (room : memory.keys + slots ≤ length w0) where
+  keys_long : length (keys_in w0 n) ≡ slots
+  keys_long = length-take-le n (drop memory.keys w0) (omega (arith, length-drop memory.keys w0)) ∙ e
 
-  module _ (b : Between w0 slots key low high) where
-    pub go_up : (mid : ℕ) → low ≤ mid → mid < high → key_at w0 mid < key → Between w0 slots key (mid + 1) high
-    go_up mid l h u =
-        let w = b.within in
-        record { up = omega arith; within = w; above = b.above; under = λ a j k. by a j k (three j mid) }
-      where
-        by : Ascending w0 slots → (j : ℕ) → j < mid + 1 → Three j mid → key_at w0 j < key
-        by a j k (less x) = let w = b.within in let z = a j mid x (omega arith) in omega arith
-        by a j k (same x) = rw x u
-        by a j k (over x) = absurd (omega arith)
+  key_in : (j : ℕ) → j < slots → get_or (keys_in w0 n) j 0 ≡ key_at w0 j
+  key_in j h = get_or-take n (drop memory.keys w0) j 0 (omega arith) ∙ get_or-drop memory.keys w0 j 0
 
-    pub go_down : (mid : ℕ) → low ≤ mid → mid < high → (key_at w0 mid ≡ key → ⊥) → key ≤ key_at w0 mid → Between w0 slots key low mid
-    go_down mid l h n u =
-        let w = b.within in
-        record { up = l; within = omega arith; under = b.under; above = λ a j k m. by a j k m (three j mid) }
-      where
-        by : Ascending w0 slots → (j : ℕ) → mid ≤ j → j < slots → Three j mid → key < key_at w0 j
-        by a j k m (less x) = absurd (omega arith)
-        by a j k m (same x) = rw x (omega arith)
-        by a j k m (over x) = let z = a mid j x m in omega arith
+  slot_found : (j : ℕ) → j < length (keys_in w0 n) → HoldsAt (λ y. nat_cmp y key ≡ Equal) (keys_in w0 n) j → FindsSlot w0 slots key (Some j)
+  slot_found j h k = let l : j < slots = omega (arith, keys_long) in (l, sym (key_in j l) ∙ ranked _ _ Equal (sym (k 0)))
 
-    pub none_there : high ≤ low → FindsSlot w0 slots key place.Nowhere
-    none_there h a j k e = by (three j low)
-      where
-        by : Three j low → ⊥
-        by (less x) = let z = b.under a j x in omega arith
-        by (same x) = let z = b.above a j (omega arith) k in omega arith
-        by (over x) = let z = b.above a j (omega arith) k in omega arith
+  keys_rise : Ascending w0 slots → (i j : ℕ) → i ≤ j → j < length (keys_in w0 n) → get_or (keys_in w0 n) i 0 ≤ get_or (keys_in w0 n) j 0
+  keys_rise a i j h k = let l : j < slots = omega (arith, keys_long) in by l (three i j)
+    where
+      by : j < slots → Three i j → get_or (keys_in w0 n) i 0 ≤ get_or (keys_in w0 n) j 0
+      by l (less x) = omega (arith, a i j x l, key_in i (omega arith), key_in j l)
+      by l (same x) = rw x (omega arith)
+      by l (over x) = absurd (omega arith)
+
+  none_there : (i : ℕ) → IsBinarySearchResult (λ y. nat_cmp y key) (keys_in w0 n) (Err i) → FindsSlot w0 slots key None
+  none_there i h a j k q = by (searched (keys_in w0 n) key (Err i) h (keys_rise a)) (three j i)
+    where
+      by : (i ≤ length (keys_in w0 n)) × ((k : ℕ) → k < i → get_or (keys_in w0 n) k 0 < key) × ((k : ℕ) → i ≤ k → k < length (keys_in w0 n) → key < get_or (keys_in w0 n) k 0) → Three j i → ⊥
+      by s (less x) = omega (arith, s.1 j x, key_in j k)
+      by s (same x) = omega (arith, s.2 j (omega arith) (omega (arith, keys_long)), key_in j k)
+      by s (over x) = omega (arith, s.2 j (omega arith) (omega (arith, keys_long)), key_in j k)
+
+  pub slot_searched : (r : Fallible ℕ ℕ) → IsSearchInRange r (length (keys_in w0 n)) → IsBinarySearchResult (λ y. nat_cmp y key) (keys_in w0 n) r → FindsSlot w0 slots key (result_ok r)
+  slot_searched (Ok j) h k = slot_found j h k
+  slot_searched (Err i) h k = none_there i k
 
 same_slot : (w0 : List ℕ) (slots : ℕ) → Ascending w0 slots → (j k : ℕ) → j < slots → k < slots → key_at w0 j ≡ key_at w0 k → j ≡ k
 same_slot w0 slots a j k h i e = by (three j k)
@@ -149,7 +147,7 @@ module _ (st : Counts) (w0 : List ℕ) (j a e : ℕ) (p : a ≡ cells_start st w
     pub stands_far : 2048 < e → SlotStands st w0 j sp s B B ended.Stuck
     stands_far k = record { small = tt; is = λ v x m. absurd (let z = size_is (omega arith) x in omega arith) }
 
-    pub stands : {A : List ℕ} {x y : ℕ} (f : Formed) {r : Ended} → sp ≤ length B → x ≡ memory.cells + a → y ≡ memory.cells + e → Brings w0 x y sp B A f → r ≡ formed_as f s → SlotStands st w0 j sp s B A r
+    pub stands : {A : List ℕ} {x y : ℕ} (f : Optional ℕ) {r : Ended} → sp ≤ length B → x ≡ memory.cells + a → y ≡ memory.cells + e → Brings w0 x y sp B A f → r ≡ formed_as f s → SlotStands st w0 j sp s B A r
     stands {A} {x} {y} f {r} k g h b q = rw q (record { small = formed_small f s b.small; is = λ v z m. formed_value B s k (b.is v z.fits (rw (g, h) (part z))) m })
 
 -- ---- whether a value is an object of a class, and whether it has a row
@@ -199,9 +197,9 @@ has_object m i (coll k vs) e = absurd (let z : ◌≡◌ {A = ℕ} 0 1 = cc in o
 
 -- ---- the slot of a row for an object
 
-pub slot_of : (st : Counts) (w0 : List ℕ) {i cell slots o : ℕ} (x : Place) → i < 64 → slots ≡ st.slots → PayloadOf cell o → FindsSlot w0 slots (o * 64 + i) x → RowSlot st w0 i cell x
+pub slot_of : (st : Counts) (w0 : List ℕ) {i cell slots o : ℕ} (x : Optional ℕ) → i < 64 → slots ≡ st.slots → PayloadOf cell o → FindsSlot w0 slots (o * 64 + i) x → RowSlot st w0 i cell x
 unfolding payload sort
-slot_of st w0 {i} {cell} {slots} {o} (place.At j) h n Q F = (let l = F.0 in omega arith, λ m H p f e. by m H p (Q.is (obj p) f (λ n. omega arith) e) (m.value_of p i) refl (H.stored p i h))
+slot_of st w0 {i} {cell} {slots} {o} (Some j) h n Q F = (let l = F.0 in omega arith, λ m H p f e. by m H p (Q.is (obj p) f (λ n. omega arith) e) (m.value_of p i) refl (H.stored p i h))
   where
     by : (m : Model) → HoldsModel st w0 m → (p : ℕ) → o ≡ p → (x : Option Value) → m.value_of p i ≡ x → Stored st w0 p i x → (v : Value) × ((m.value_of p i ≡ some v) × SlotHolds st w0 j v)
     by m H p e none u (no_slot f) = absurd (f j (let l = F.0 in omega arith) (F.1 ∙ ap (λ (k : ℕ). k * 64 + i) e))
@@ -209,14 +207,14 @@ slot_of st w0 {i} {cell} {slots} {o} (place.At j) h n Q F = (let l = F.0 in omeg
         let d = same_slot w0 st.slots H.ascending k j l (let l = F.0 in omega arith) (q ∙ ap (λ (k : ℕ). k * 64 + i) (sym e) ∙ sym F.1) in
         let c : SlotHolds st w0 k v = record { there = l; within = y; cells = z; fits = f } in
         (v, (u, rw d at c))
-slot_of st w0 {i} {cell} {slots} {o} place.Nowhere h n Q F = λ m H p f e. by m H p (Q.is (obj p) f (λ n. omega arith) e) (m.value_of p i) refl (H.stored p i h)
+slot_of st w0 {i} {cell} {slots} {o} None h n Q F = λ m H p f e. by m H p (Q.is (obj p) f (λ n. omega arith) e) (m.value_of p i) refl (H.stored p i h)
   where
     by : (m : Model) → HoldsModel st w0 m → (p : ℕ) → o ≡ p → (x : Option Value) → m.value_of p i ≡ x → Stored st w0 p i x → m.value_of p i ≡ none
     by m H p e none u q = u
     by m H p e (some v) u (slot k l q x y z f) = absurd (F (rw n H.ascending) k (omega arith) (q ∙ ap (λ (k : ℕ). k * 64 + i) (sym e)))
 
-pub slot_within : (st : Counts) (w0 : List ℕ) (i cell : ℕ) {j : ℕ} {x : Place} → RowSlot st w0 i cell x → x ≡ place.At j → j < st.slots
-slot_within st w0 i cell {j} F e = let a : RowSlot st w0 i cell (place.At j) = rw e at F in a.0
+pub slot_within : (st : Counts) (w0 : List ℕ) (i cell : ℕ) {j : ℕ} {x : Optional ℕ} → RowSlot st w0 i cell x → x ≡ Some j → j < st.slots
+slot_within st w0 i cell {j} F e = let a : RowSlot st w0 i cell (Some j) = rw e at F in a.0
 
 -- ---- `attr`
 
@@ -242,12 +240,12 @@ module _ {st : Counts} {w0 : List ℕ} {mark sp len s : ℕ} {B : List ℕ} {b :
           rw (K.row, q, x.is) (g m H P x.o f d);
     }
 
-    pub attribute_none : {x : Place} → RowSlot st w0 (mark % 64) (get_or B sp 0) x → x ≡ place.Nowhere → Accesses of_object st w0 mark sp len s B B (ended.Undef s)
+    pub attribute_none : {x : Optional ℕ} → RowSlot st w0 (mark % 64) (get_or B sp 0) x → x ≡ None → Accesses of_object st w0 mark sp len s B B (ended.Undef s)
     attribute_none F y =
-        let a : RowSlot st w0 (mark % 64) (get_or B sp 0) place.Nowhere = rw y at F in
+        let a : RowSlot st w0 (mark % 64) (get_or B sp 0) None = rw y at F in
         on_object_lem tt (λ m H P o f d. rw (a m H o f d) (record { kept = under_refl; ends = ends_undefined }))
 
-    pub attribute_some : {x : Place} {j : ℕ} {A : List ℕ} {r : Ended} → RowSlot st w0 (mark % 64) (get_or B sp 0) x → x ≡ place.At j → SlotStands st w0 j sp s B A r → Accesses of_object st w0 mark sp len s B A r
+    pub attribute_some : {x : Optional ℕ} {j : ℕ} {A : List ℕ} {r : Ended} → RowSlot st w0 (mark % 64) (get_or B sp 0) x → x ≡ Some j → SlotStands st w0 j sp s B A r → Accesses of_object st w0 mark sp len s B A r
     attribute_some {x} {j} F y d =
-        let a : RowSlot st w0 (mark % 64) (get_or B sp 0) (place.At j) = rw y at F in
+        let a : RowSlot st w0 (mark % 64) (get_or B sp 0) (Some j) = rw y at F in
         on_object_lem d.small (λ m H P o f e. let t = a.1 m H o f e in rw t.1.0 (d.is t.0 t.1.1 (P.small o (mark % 64) t.0 t.1.0)))

@@ -10,7 +10,7 @@ use lib.ListN.{length, get_or, take, drop, set}
 use lib.Seq.{take-suc-set, take-take, drop_at, length-take-le, get_or-take, get_or-drop}
 use lib.Dec.{leb}
 use borrow.Author.Tests.{le-leb, leb-true}
-use Rattle.std.specs.Prelude.{if◌then◌else◌}
+use Rattle.std.specs.Prelude.{if◌then◌else◌, Option as Optional, Some, None}
 use Rattle.laws.proofs.Slices.{cut_part, trim, under_top}
 use Rattle.ocl.specs.Values.{Value, bool, num, obj, coll, size, sort}
 use Rattle.ocl.specs.Operations.{value, stop, form}
@@ -18,8 +18,6 @@ use Rattle.ocl.proofs.Values.{size_pos}
 use Rattle.values.specs.Cells.{head, enc, Fits}
 use Rattle.values.specs.Meanings.{Means, means_bool, means_int, means_real, means_obj, CellOf, Pushes, Forms, SortOf, PayloadOf, SmallForm}
 use Rattle.values.specs.declared.Simple.{Simple}
-use Rattle.values.specs.declared.Formed.{Formed}
-use Rattle.values.specs.declared.Formed.TheVariants as formed
 use Rattle.values.proofs.Heads.{enc_parts, sort_kind, shape, Shape, shape_bool, shape_num, shape_obj, shape_coll}
 use Rattle.outcomes.specs.declared.Ended.{Ended}
 use Rattle.outcomes.specs.declared.Ended.TheVariants as ended
@@ -143,16 +141,13 @@ truth_other {cell} {s} S e = record { is = λ v f h. by (shape f (S.is v f h) (�
 abbrev pub Other : Ended → Type 0
 Other r = (len steps : ℕ) → r ≡ ended.Value len steps → ⊥
 
-pub bounds : {r : Ended} {la sa : ℕ} → SmallAnswer r → r ≡ ended.Value la sa → (1 ≤ la) × (la ≤ 128)
-bounds h q = rw q at h
-
 -- ---- what was formed
 
-pub formed_small : (f : Formed) (s : ℕ) → SmallForm f → SmallAnswer (formed_as f s)
-formed_small (formed.Done n) s m = m
-formed_small formed.Over s m = tt
+pub formed_small : (f : Optional ℕ) (s : ℕ) → SmallForm f → SmallAnswer (formed_as f s)
+formed_small (Some n) s m = m
+formed_small None s m = tt
 
-module _ {v : Value} {sp : ℕ} {A : List ℕ} {f : Formed} (B : List ℕ) (s : ℕ) (h : sp ≤ length B) (F : Forms v sp (take sp B) A f) where
+module _ {v : Value} {sp : ℕ} {A : List ℕ} {f : Optional ℕ} (B : List ℕ) (s : ℕ) (h : sp ≤ length B) (F : Forms v sp (take sp B) A f) where
   kept_below : Under sp A B
   kept_below = record { same = F.below }
 

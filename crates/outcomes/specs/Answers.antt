@@ -1,13 +1,11 @@
 -- An outcome of the definition and the code's answer for it: a value's cells lie at sp, above words that are as they were.
-use Rattle.std.specs.Prelude.{◌≡◌, List, ℕ, ◌+◌, ◌≤◌, ◌<◌, take}
+use Rattle.std.specs.Prelude.{◌≡◌, List, ℕ, ◌+◌, ◌≤◌, ◌<◌, take, Option as Optional, Some, None}
 use Rattle.std.proofs.Math.Seq.{slice}
 use Rattle.ocl.specs.Values.{Value, bool, num, obj, coll, size, sort, largest}
 use Rattle.ocl.specs.Operations.{Outcome, value, undefined, stuck, stop}
 use Rattle.values.specs.Cells.{bit, head, enc, Fits}
 use Rattle.values.specs.Meanings.{Means}
 use Rattle.values.specs.declared.Simple.{Simple}
-use Rattle.values.specs.declared.Formed.{Formed}
-use Rattle.values.specs.declared.Formed.TheVariants as formed
 use Rattle.outcomes.specs.declared.Ended.{Ended}
 use Rattle.outcomes.specs.declared.Ended.TheVariants as ended
 
@@ -51,9 +49,9 @@ pub record Gives (x : Simple) (sp s : ℕ) (B A : List ℕ) (r : Ended) : Type 0
   pub is : (v : Value) → Fits v → Means x v → Ran (value v s) sp B A r
 
 -- what was formed, with the steps
-abbrev pub formed_as : Formed → ℕ → Ended
-formed_as (formed.Done len) s = ended.Value len s
-formed_as formed.Over s = ended.Stop 17 s
+abbrev pub formed_as : Optional ℕ → ℕ → Ended
+formed_as (Some len) s = ended.Value len s
+formed_as None s = ended.Stop 17 s
 
 -- 0 for false, 1 for true, 2 for any other value
 unfoldable pub truth_of : Value → ℕ

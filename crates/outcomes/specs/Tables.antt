@@ -1,5 +1,5 @@
 -- What the contracts over the tables say: of every model that the words hold.
-use Rattle.std.specs.Prelude.{◌≡◌, Bool, false, List, ℕ, suc, ◌+◌, ◌≤◌, ◌<◌, get_or, take, eqb}
+use Rattle.std.specs.Prelude.{◌≡◌, Bool, false, List, ℕ, suc, ◌+◌, ◌≤◌, ◌<◌, get_or, take, eqb, Option as Optional, Some, None}
 use Rattle.std.proofs.Math.Option.{none, some}
 use Rattle.std.proofs.Math.Seq.{slice}
 use Rattle.std.specs.Prelude.{if◌then◌else◌}
@@ -13,14 +13,11 @@ use Rattle.ocl.specs.Operations.{value, has_row, access, instances}
 use Rattle.sheet.specs.Sizes.{least_words}
 use Rattle.values.specs.Cells.{head, enc, Fits}
 use Rattle.values.specs.Meanings.{Forms, SmallForm}
-use Rattle.values.specs.declared.Formed.{Formed}
 use Rattle.nodes.specs.Marks.{Marked}
 use Rattle.tables.specs.declared.Counts.{Counts}
 use Rattle.tables.specs.Layout.{Fine}
 use Rattle.tables.specs.Stored.{key_at, start_at, end_at, HoldsModel}
 use Rattle.outcomes.specs.declared.Ended.{Ended}
-use Rattle.outcomes.specs.declared.Place.{Place}
-use Rattle.outcomes.specs.declared.Place.TheVariants as place
 use Rattle.outcomes.specs.Answers.{Lies, Ran, SmallAnswer}
 
 -- the counts are within the limits, and the words are as many as are lent
@@ -40,9 +37,9 @@ pub record Owner (st : Counts) (w0 : List ℕ) (i r : ℕ) : Type 0 where
   pub is : (m : Model) → HoldsModel st w0 m → Plain st m → r ≡ (m.row i).owner
 
 -- the slot with the key; where slots ascend, there is none if none is found
-abbrev pub FindsSlot : List ℕ → ℕ → ℕ → Place → Type 0
-FindsSlot w0 slots key (place.At j) = (j < slots) × (key_at w0 j ≡ key)
-FindsSlot w0 slots key place.Nowhere =
+abbrev pub FindsSlot : List ℕ → ℕ → ℕ → Optional ℕ → Type 0
+FindsSlot w0 slots key (Some j) = (j < slots) × (key_at w0 j ≡ key)
+FindsSlot w0 slots key None =
     ((j k : ℕ) → j < k → k < slots → key_at w0 j < key_at w0 k) → (j : ℕ) → j < slots → key_at w0 j ≡ key → ⊥
 
 -- where slot j's cells start among the cells, and where the last slot's end
@@ -77,10 +74,10 @@ pub record HasRow (st : Counts) (w0 : List ℕ) (i cell : ℕ) (r : Bool) : Type
   pub is : (m : Model) → HoldsModel st w0 m → Plain st m → (v : Value) → Fits v → cell ≡ head v → r ≡ has_row m i v
 
 -- the slot that holds the value of row i for the object with this cell; nowhere if there is none
-abbrev pub RowSlot : Counts → List ℕ → ℕ → ℕ → Place → Type 0
-RowSlot st w0 i cell (place.At j) =
+abbrev pub RowSlot : Counts → List ℕ → ℕ → ℕ → Optional ℕ → Type 0
+RowSlot st w0 i cell (Some j) =
     (j < st.slots) × ((m : Model) → HoldsModel st w0 m → (o : ℕ) → Fits (obj o) → cell ≡ head (obj o) → (v : Value) × ((m.value_of o i ≡ some v) × SlotHolds st w0 j v))
-RowSlot st w0 i cell place.Nowhere = (m : Model) → HoldsModel st w0 m → (o : ℕ) → Fits (obj o) → cell ≡ head (obj o) → m.value_of o i ≡ none
+RowSlot st w0 i cell None = (m : Model) → HoldsModel st w0 m → (o : ℕ) → Fits (obj o) → cell ≡ head (obj o) → m.value_of o i ≡ none
 
 -- `attr` or `collect`, by the word that the node is marked with, over the value at sp
 pub record Accesses (x : Access) (st : Counts) (w0 : List ℕ) (mark sp len s : ℕ) (B A : List ℕ) (r : Ended) : Type 0 where
@@ -89,11 +86,11 @@ pub record Accesses (x : Access) (st : Counts) (w0 : List ℕ) (mark sp len s : 
       → Ran (access m x k v s) sp B A r
 
 -- the Set of a class's objects before o, with o
-pub record WithObject (st : Counts) (w0 : List ℕ) (c sp len o : ℕ) (B A : List ℕ) (r : Formed) : Type 0 where
+pub record WithObject (st : Counts) (w0 : List ℕ) (c sp len o : ℕ) (B A : List ℕ) (r : Optional ℕ) : Type 0 where
   pub small : SmallForm r
   pub is : (m : Model) → HoldsModel st w0 m → Lies (coll set (instances m c o)) sp len B → Forms (coll set (instances m c (suc o))) sp (take sp B) A r
 
 -- the Set of a class's objects at sp
-pub record Instances (st : Counts) (w0 : List ℕ) (c sp : ℕ) (B A : List ℕ) (r : Formed) : Type 0 where
+pub record Instances (st : Counts) (w0 : List ℕ) (c sp : ℕ) (B A : List ℕ) (r : Optional ℕ) : Type 0 where
   pub small : SmallForm r
   pub is : (m : Model) → HoldsModel st w0 m → Forms (coll set (instances m c m.object_count)) sp (take sp B) A r

@@ -4,8 +4,8 @@ ghost use Rattle.values.specs.Meanings.{Narrow};
 ghost use Rattle.outcomes.specs.Answers.{formed_as, GivesCell, Gives, Truth};
 
 use crate::Ended;
+use values::Simple;
 use values::cells::{cell_of, payload_of, sort_of};
-use values::{Formed, Simple};
 
 // Puts the cell of a simple value at sp, which is then the answer.
 pub fn put_cell(stack: &mut [u64], sp: usize, cell: u64, steps: u64) -> Ended
@@ -25,12 +25,12 @@ pub fn put(stack: &mut [u64], sp: usize, s: Simple, steps: u64) -> Ended
 }
 
 // The collection that was formed, or stop 17 if it would be too large.
-pub fn formed(f: Formed, steps: u64) -> Ended
+pub fn formed(f: Option<usize>, steps: u64) -> Ended
     ensures { result ≡ formed_as f steps }
 {
     match f {
-        Formed::Done { len } => Ended::Value { len, steps },
-        Formed::Over => Ended::Stop { number: 17, steps },
+        Some(len) => Ended::Value { len, steps },
+        None => Ended::Stop { number: 17, steps },
     }
 }
 

@@ -13,10 +13,3 @@ pub enum Ended {
     Stuck,
     Stop { number: u64, steps: u64 },
 }
-
-// Where a slot is, if there is one.
-#[derive(Clone, Copy)]
-pub enum Place {
-    At { j: usize },
-    Nowhere,
-}

@@ -5,8 +5,8 @@ ghost use Rattle.ocl.specs.Values.{largest};
 ghost use Rattle.sheet.specs.Sizes.{least_words, most_rows, most_values};
 ghost use Rattle.outcomes.specs.Tables.{Bounds, IsA, Owner, FindsSlot, cells_start, SlotStands, IsObject, HasRow, RowSlot, Accesses};
 
+use crate::Ended;
 use crate::answers::formed;
-use crate::{Ended, Place};
 use memory::words::wide;
 use tables::Counts;
 use types::classes::class_below;
@@ -17,12 +17,12 @@ pub fn is_a(tables: &[u64], st: Counts, o: u64, c: u64) -> bool
     requires { Bounds st (length tables.now) }
     ensures { IsA st tables.now o c result }
 {
-    if st.objects <= o {
-        return false;
-    }
-    let classes = wide(st.classes);
-    let at = memory::OBJECTS + wide(o);
-    class_below(&tables[0..classes], tables[at], c)
+    o < st.objects
+        && class_below(
+            &tables[..wide(st.classes)],
+            tables[memory::OBJECTS + wide(o)],
+            c,
+        )
 }
 
 // The class that declares row i, or 0 if there is no such row.
@@ -37,25 +37,13 @@ pub fn owner(tables: &[u64], st: Counts, i: u64) -> u64
 }
 
 // The slot with this key, by binary search: slots stand in ascending order of their keys.
-pub fn find_slot(tables: &[u64], slots: usize, key: u64) -> Place
+pub fn find_slot(tables: &[u64], slots: usize, key: u64) -> Option<usize>
     requires { (slots ≤ most_values) × (least_words ≤ length tables.now) }
     ensures { FindsSlot tables.now slots key result }
 {
-    let mut low: usize = 0;
-    let mut high = slots;
-    while low < high {
-        let mid = low + (high - low) / 2;
-        let k = tables[memory::KEYS + mid];
-        if k == key {
-            return Place::At { j: mid };
-        }
-        if k < key {
-            low = mid + 1;
-        } else {
-            high = mid;
-        }
-    }
-    Place::Nowhere
+    tables[memory::KEYS..memory::KEYS + slots]
+        .binary_search(&key)
+        .ok()
 }
 
 // Where slot j's cells start; for the place after the last slot, where all cells end.
@@ -83,10 +71,7 @@ pub fn bring(
 {
     let a = start_of(tables, st, j);
     let e = start_of(tables, st, j + 1);
-    if e <= a {
-        return Ended::Stuck;
-    }
-    if memory::MOST_CELLS < e {
+    if e <= a || memory::MOST_CELLS < e {
         return Ended::Stuck;
     }
     formed(
@@ -106,10 +91,7 @@ pub fn is_object(tables: &[u64], st: Counts, c: u64, cell: u64) -> bool
     requires { Bounds st (length tables.now) }
     ensures { IsObject st tables.now c cell result }
 {
-    if sort_of(cell) != OBJECT {
-        return false;
-    }
-    is_a(tables, st, payload_of(cell), c)
+    sort_of(cell) == OBJECT && is_a(tables, st, payload_of(cell), c)
 }
 
 // Whether the value with this first cell is an object that has row i: one of the class that declares the row, or below it.
@@ -122,7 +104,7 @@ pub fn has_row(tables: &[u64], st: Counts, i: u64, cell: u64) -> bool
 }
 
 // The slot of row i for the object with this cell.
-pub fn row_slot(tables: &[u64], st: Counts, i: u64, cell: u64) -> Place
+pub fn row_slot(tables: &[u64], st: Counts, i: u64, cell: u64) -> Option<usize>
     requires { Bounds st (length tables.now) × (i < most_rows) }
     ensures { RowSlot st tables.now i cell result }
 {
@@ -148,7 +130,7 @@ pub fn attribute_of(
     let i = mark % memory::MOST_ROWS;
     let cell = stack[sp];
     if has_row(tables, st, i, cell) {
-        let Place::At { j } = row_slot(tables, st, i, cell) else {
+        let Some(j) = row_slot(tables, st, i, cell) else {
             return Ended::Undef { steps };
         };
         bring(tables, st, j, stack, sp, steps)

@@ -9,7 +9,7 @@ use native.Mathlib.Omega.{arith}
 use borrow.Author.Tests.{eq-eqb, ne_eqb, eqb-true}
 use lib.Dec.{eqb}
 use Rattle.laws.specs.Choice.{on_some, map_some}
-use Rattle.std.specs.Prelude.{if◌then◌else◌}
+use Rattle.std.specs.Prelude.{if◌then◌else◌, Option as Optional, Some, None}
 use Rattle.ocl.specs.Forms.{of_object}
 use Rattle.sheet.specs.Text.{Bytes}
 use Rattle.sheet.specs.Grammar.Tokens.{Tokens}
@@ -23,10 +23,6 @@ use Rattle.tokens.specs.declared.Token.{Token}
 use Rattle.tokens.proofs.WordCodes.{after_bracket, is_dot, is_arrow, is_undef_lem, is_cast}
 use Rattle.phrases.specs.Forms.{one_words, cast_step}
 use Rattle.phrases.specs.Meanings.{AfterIs, LabelledAs, labelled_one, StandsAs, StepAs, step_ends, step_broken, step_plain}
-use Rattle.phrases.specs.declared.After.{After}
-use Rattle.phrases.specs.declared.After.TheVariants as after
-use Rattle.phrases.specs.declared.Labelled.{Labelled}
-use Rattle.phrases.specs.declared.Labelled.TheVariants as label
 use Rattle.phrases.specs.declared.Postfix.{Postfix}
 use Rattle.phrases.specs.declared.Postfix.TheVariants as step
 use Rattle.phrases.proofs.WordLaws as words
@@ -52,26 +48,26 @@ dot_seen_lem (w ∷ s) = go (labelled 97 w) (labelled 100 w)
     go none (some n) = refl
     go none none = rw (is_undef_lem w, is_cast w)
 
-module _ {s : Bytes} {t : Token} {r : Labelled} (h : LabelledAs s t (taking (labelled 97) (onward s t)) r) where
-  pub dot_attribute : {x : ℕ} {u : Token} → r ≡ label.Is x u → StepAs s t (or_broken (dot_step (onward s t))) (step.Plain 33 x u)
+module _ {s : Bytes} {t : Token} {r : Optional (ℕ × Token)} (h : LabelledAs s t (taking (labelled 97) (onward s t)) r) where
+  pub dot_attribute : {x : ℕ} {u : Token} → r ≡ Some (x, u) → StepAs s t (or_broken (dot_step (onward s t))) (step.Plain 33 x u)
   unfolding dot_seen or_broken one_words access_code
   dot_attribute {x} {u} d = go (rw d at h)
     where
-      go : LabelledAs s t (taking (labelled 97) (onward s t)) (label.Is x u) → StepAs s t (or_broken (dot_step (onward s t))) (step.Plain 33 x u)
+      go : LabelledAs s t (taking (labelled 97) (onward s t)) (Some (x, u)) → StepAs s t (or_broken (dot_step (onward s t))) (step.Plain 33 x u)
       go (labelled_one n e p g) = step_plain {u = u} (attribute of_object n) (rw (dot_seen_lem (onward s t), e)) (record { code = refl; number = p }) g
 
-  module _ (d : r ≡ label.No) {q : Labelled} (g : LabelledAs s t (taking (labelled 100) (onward s t)) q) where
-    pub dot_definition : {x : ℕ} {u : Token} {a : Postfix} → q ≡ label.Is x u
+  module _ (d : r ≡ None) {q : Optional (ℕ × Token)} (g : LabelledAs s t (taking (labelled 100) (onward s t)) q) where
+    pub dot_definition : {x : ℕ} {u : Token} {a : Postfix} → q ≡ Some (x, u)
         → ((f : One) → StandsAs f 36 x → StepAs s u (or_broken (map_some (plain f) (after_call (onward s u)))) a) → StepAs s t (or_broken (dot_step (onward s t))) a
     unfolding dot_seen one_words
     dot_definition {x} {u} {a} e k = go (rw e at g)
       where
-        go : LabelledAs s t (taking (labelled 100) (onward s t)) (label.Is x u) → StepAs s t (or_broken (dot_step (onward s t))) a
+        go : LabelledAs s t (taking (labelled 100) (onward s t)) (Some (x, u)) → StepAs s t (or_broken (dot_step (onward s t))) a
         go (labelled_one n c p f) =
             let w = f.from in
             step_later {t = u} (omega arith) (rw (dot_seen_lem (onward s t), words.unlabelled h d, c) (k (call n) (record { code = refl; number = p })))
 
-    module _ (e : q ≡ label.No) (a : Ahead s t) where
+    module _ (e : q ≡ None) (a : Ahead s t) where
       seen : dot_step (onward s t) ≡ dot_seen none none (onward s t)
       seen = rw (dot_seen_lem (onward s t), words.unlabelled h d, words.unlabelled g e)
 
@@ -113,12 +109,12 @@ module _ {s : Bytes} {t : Token} (h : Ahead s t) where
   unfolding arrow_step or_broken
   arrow_end e = step_broken (rw (h.none e))
 
-  module _ (n : t.code ≢ 65) {u : Token} (m : NextIs s t.end u) {q : After} (g : AfterIs s u 40 q) where
-    pub arrow_unopened : q ≡ after.No → StepAs s t (or_broken (arrow_step (onward s t))) step.Broken
+  module _ (n : t.code ≢ 65) {u : Token} (m : NextIs s t.end u) {q : Optional Token} (g : AfterIs s u 40 q) where
+    pub arrow_unopened : q ≡ None → StepAs s t (or_broken (arrow_step (onward s t))) step.Broken
     unfolding arrow_step on_some or_broken
     arrow_unopened d = step_broken (rw (words.front h n m, after_bracket (onward s u), words.gone g d))
 
-    pub arrow_call : {v : Token} {a : Postfix} → q ≡ after.At v
+    pub arrow_call : {v : Token} {a : Postfix} → q ≡ Some v
         → ((b : Token) (w : Bytes) → b.start < v.start → code_of w ≡ t.code → StepAs s b (or_broken (call_step w (onward s v))) a) → StepAs s t (or_broken (arrow_step (onward s t))) a
     unfolding arrow_step on_some
     arrow_call {v} d k =

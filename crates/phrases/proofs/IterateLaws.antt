@@ -10,22 +10,18 @@ use Rattle.sheet.specs.Grammar.Tokens.{Tokens}
 use Rattle.sheet.specs.Grammar.Trees.{iterate}
 use Rattle.sheet.specs.Grammar.Words.{labelled, variable_word}
 use Rattle.sheet.specs.Grammar.Parser.{after, taking, type_in, Next, iteration, or_broken, iterate_step}
-use Rattle.types.specs.declared.GotType.{GotType}
 use Rattle.tokens.specs.Codes.{after_code}
 use Rattle.tokens.specs.Meanings.{onward}
 use Rattle.tokens.specs.declared.Token.{Token}
 use Rattle.tokens.proofs.WordCodes.{after_semicolon, after_colon, after_equals}
 use Rattle.phrases.specs.Forms.{labelled_before}
 use Rattle.phrases.specs.Meanings.{AfterIs, LabelledAs, labelled_one, TypeAs, type_one, StepAs, step_broken, step_iteration}
-use Rattle.phrases.specs.declared.After.{After}
-use Rattle.phrases.specs.declared.After.TheVariants as after
-use Rattle.phrases.specs.declared.Labelled.{Labelled}
-use Rattle.phrases.specs.declared.Labelled.TheVariants as label
-use Rattle.phrases.specs.declared.TypeFound.{TypeFound}
-use Rattle.phrases.specs.declared.TypeFound.TheVariants as type
 use Rattle.phrases.specs.declared.Postfix.TheVariants as step
 use Rattle.phrases.proofs.WordLaws.{farther, gone, came, came_further, unlabelled}
 use Rattle.phrases.proofs.TypeLaws.{untyped}
+use Rattle.std.specs.Prelude.{Option as Optional, Some, None, Result}
+use Rattle.memory.specs.declared.refusals.Misread.{Misread}
+use Rattle.types.specs.declared.FlatType.{FlatType}
 
 -- by the codes of the signs
 unfoldable equals : ℕ → ℕ → Option (Ty × Tokens) → Option Next
@@ -62,39 +58,39 @@ iterate_told : (s : Tokens) → iterate_step s ≡ members (labelled_before 118 
 unfolding iterate_step members results variable_word
 iterate_told s = before_on 118 45 ";" _ (λ i r. results i (labelled_before 118 46 r)) after_semicolon (λ i r. before_on 118 46 ":" _ (λ j q. equals i j (type_in q)) after_colon (equals_told i) r) s
 
-module _ {s : Bytes} {t : Token} {r : Labelled} (h : LabelledAs s t (labelled_before 118 45 (onward s t)) r) where
-  pub no_first : r ≡ label.No → StepAs s t (or_broken (iterate_step (onward s t))) step.Broken
+module _ {s : Bytes} {t : Token} {r : Optional (ℕ × Token)} (h : LabelledAs s t (labelled_before 118 45 (onward s t)) r) where
+  pub no_first : r ≡ None → StepAs s t (or_broken (iterate_step (onward s t))) step.Broken
   unfolding members on_some or_broken
   no_first d = step_broken (rw (iterate_told (onward s t), unlabelled h d))
 
-  module _ {x : ℕ} {u : Token} (d : r ≡ label.Is x u) {r₂ : Labelled} (h₂ : LabelledAs s u (labelled_before 118 46 (onward s u)) r₂) where
-    pub no_second : r₂ ≡ label.No → StepAs s t (or_broken (iterate_step (onward s t))) step.Broken
+  module _ {x : ℕ} {u : Token} (d : r ≡ Some (x, u)) {r₂ : Optional (ℕ × Token)} (h₂ : LabelledAs s u (labelled_before 118 46 (onward s u)) r₂) where
+    pub no_second : r₂ ≡ None → StepAs s t (or_broken (iterate_step (onward s t))) step.Broken
     unfolding members results on_some or_broken
     no_second d₂ = go (rw d at h)
       where
-        go : LabelledAs s t (labelled_before 118 45 (onward s t)) (label.Is x u) → StepAs s t (or_broken (iterate_step (onward s t))) step.Broken
+        go : LabelledAs s t (labelled_before 118 45 (onward s t)) (Some (x, u)) → StepAs s t (or_broken (iterate_step (onward s t))) step.Broken
         go (labelled_one i e c f) = step_broken (rw (iterate_told (onward s t), e, unlabelled h₂ d₂))
 
-    module _ {y : ℕ} {v : Token} (d₂ : r₂ ≡ label.Is y v) {r₃ : TypeFound} (h₃ : TypeAs s v (type_in (onward s v)) r₃) where
-      pub no_type : r₃ ≡ type.No → StepAs s t (or_broken (iterate_step (onward s t))) step.Broken
+    module _ {y : ℕ} {v : Token} (d₂ : r₂ ≡ Some (y, v)) {r₃ : Optional (Result FlatType Misread × Token)} (h₃ : TypeAs s v (type_in (onward s v)) r₃) where
+      pub no_type : r₃ ≡ None → StepAs s t (or_broken (iterate_step (onward s t))) step.Broken
       unfolding members results equals on_some or_broken
       no_type d₃ = go (rw d at h) (rw d₂ at h₂)
         where
-          go : LabelledAs s t (labelled_before 118 45 (onward s t)) (label.Is x u) → LabelledAs s u (labelled_before 118 46 (onward s u)) (label.Is y v) → StepAs s t (or_broken (iterate_step (onward s t))) step.Broken
+          go : LabelledAs s t (labelled_before 118 45 (onward s t)) (Some (x, u)) → LabelledAs s u (labelled_before 118 46 (onward s u)) (Some (y, v)) → StepAs s t (or_broken (iterate_step (onward s t))) step.Broken
           go (labelled_one i e c f) (labelled_one j e₂ c₂ f₂) = step_broken (rw (iterate_told (onward s t), e, e₂, untyped h₃ d₃))
 
-      module _ {g : GotType} {w : Token} (d₃ : r₃ ≡ type.Is g w) {q : After} (k : AfterIs s w 13 q) where
-        pub no_equals : q ≡ after.No → StepAs s t (or_broken (iterate_step (onward s t))) step.Broken
+      module _ {g : Result FlatType Misread} {w : Token} (d₃ : r₃ ≡ Some (g, w)) {q : Optional Token} (k : AfterIs s w 13 q) where
+        pub no_equals : q ≡ None → StepAs s t (or_broken (iterate_step (onward s t))) step.Broken
         unfolding members results equals on_some map_some or_broken
         no_equals z = go (rw d at h) (rw d₂ at h₂) (rw d₃ at h₃)
           where
-            go : LabelledAs s t (labelled_before 118 45 (onward s t)) (label.Is x u) → LabelledAs s u (labelled_before 118 46 (onward s u)) (label.Is y v) → TypeAs s v (type_in (onward s v)) (type.Is g w) → StepAs s t (or_broken (iterate_step (onward s t))) step.Broken
+            go : LabelledAs s t (labelled_before 118 45 (onward s t)) (Some (x, u)) → LabelledAs s u (labelled_before 118 46 (onward s u)) (Some (y, v)) → TypeAs s v (type_in (onward s v)) (Some (g, w)) → StepAs s t (or_broken (iterate_step (onward s t))) step.Broken
             go (labelled_one i e c f) (labelled_one j e₂ c₂ f₂) (type_one a e₃ c₃ f₃) = step_broken (rw (iterate_told (onward s t), e, e₂, e₃, gone k z))
 
-        pub iterates : {n : Token} → q ≡ after.At n → StepAs s t (or_broken (iterate_step (onward s t))) (step.Iteration x y g n)
+        pub iterates : {n : Token} → q ≡ Some n → StepAs s t (or_broken (iterate_step (onward s t))) (step.Iteration x y g n)
         unfolding members results equals on_some map_some or_broken
         iterates {n} z = go (rw d at h) (rw d₂ at h₂) (rw d₃ at h₃)
           where
-            go : LabelledAs s t (labelled_before 118 45 (onward s t)) (label.Is x u) → LabelledAs s u (labelled_before 118 46 (onward s u)) (label.Is y v) → TypeAs s v (type_in (onward s v)) (type.Is g w) → StepAs s t (or_broken (iterate_step (onward s t))) (step.Iteration x y g n)
+            go : LabelledAs s t (labelled_before 118 45 (onward s t)) (Some (x, u)) → LabelledAs s u (labelled_before 118 46 (onward s u)) (Some (y, v)) → TypeAs s v (type_in (onward s v)) (Some (g, w)) → StepAs s t (or_broken (iterate_step (onward s t))) (step.Iteration x y g n)
             go (labelled_one i e c f) (labelled_one j e₂ c₂ f₂) (type_one a e₃ c₃ f₃) =
                 step_iteration {u = n} i j a (rw (iterate_told (onward s t), e, e₂, e₃, came k z)) c c₂ c₃ (farther f (farther f₂ (farther f₃ (came_further k z))))

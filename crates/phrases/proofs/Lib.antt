@@ -6,5 +6,4 @@ pub mod CallLaws
 pub mod DotLaws
 pub mod OpeningLaws
 pub mod TypeLaws
-pub mod KindLaws
 pub mod IterateLaws

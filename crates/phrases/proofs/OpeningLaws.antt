@@ -4,9 +4,9 @@ use mathlib.Core.Logic.{◌≢◌}
 use mathlib.Core.Bool.{Bool, true, false, true≢false}
 use mathlib.Core.Option.{Option, none, some}
 use mathlib.Core.List.{List, [], ◌∷◌}
-use Prim.Native.Nat.{ℕ, ◌<◌, ◌≤◌}
+use Prim.Native.Nat.{ℕ}
 use native.Mathlib.Omega.{arith}
-use borrow.Author.Tests.{ne_eqb, le-leb, lt-leb, leb-true}
+use borrow.Author.Tests.{ne_eqb, leb-true}
 use lib.Dec.{leb}
 use Rattle.laws.specs.Choice.{on_some, map_some}
 use Rattle.laws.proofs.Tests.{and-true}
@@ -28,13 +28,10 @@ use Rattle.tokens.proofs.CodeLaws.{by_code, coded, all_coded, named_told}
 use Rattle.tokens.proofs.WordCodes.{after_dot, after_all, after_bracket, after_close, after_brace, after_close_brace, is_bracket, is_if}
 use Rattle.phrases.specs.Forms.{is_collection, class_start, other_start}
 use Rattle.phrases.specs.Meanings.{Further, AfterIs, LabelledAs, labelled_one, OpeningAs, opening_none, opening_all, opening_bracket, opening_condition, opening_empty, opening_members}
-use Rattle.phrases.specs.declared.After.{After}
-use Rattle.phrases.specs.declared.After.TheVariants as after
-use Rattle.phrases.specs.declared.Labelled.{Labelled}
-use Rattle.phrases.specs.declared.Labelled.TheVariants as label
 use Rattle.phrases.specs.declared.Opening.{Opening}
 use Rattle.phrases.specs.declared.Opening.TheVariants as opening
 use Rattle.phrases.proofs.WordLaws as words
+use Rattle.std.specs.Prelude.{Option as Optional, Some, None}
 
 -- ---- `#1.allInstances()`
 
@@ -66,40 +63,40 @@ instances_told (w ∷ s) = go (labelled 35 w)
     go none = refl
     go (some c) = rw (after_dot s) (second c (after_code 48 s))
 
-module _ {s : Bytes} {t : Token} {r : Labelled} (h : LabelledAs s t (taking (labelled 35) (onward s t)) r) where
-  pub no_class : r ≡ label.No → OpeningAs s t (class_start (onward s t)) opening.No
+module _ {s : Bytes} {t : Token} {r : Optional (ℕ × Token)} (h : LabelledAs s t (taking (labelled 35) (onward s t)) r) where
+  pub no_class : r ≡ None → OpeningAs s t (class_start (onward s t)) None
   unfolding instances_by on_some
   no_class d = opening_none (rw (instances_told (onward s t), words.unlabelled h d))
 
-  module _ {x : ℕ} {u : Token} (d : r ≡ label.Is x u) where
+  module _ {x : ℕ} {u : Token} (d : r ≡ Some (x, u)) where
     -- the class, and what follows it
-    on_class_lem : {a : Opening} → ((c : ℕ) → x ≡ cut c → Further s t u → OpeningAs s t (instances_by (some (c, onward s u))) a) → OpeningAs s t (class_start (onward s t)) a
+    on_class_lem : {a : Optional Opening} → ((c : ℕ) → x ≡ cut c → Further s t u → OpeningAs s t (instances_by (some (c, onward s u))) a) → OpeningAs s t (class_start (onward s t)) a
     on_class_lem {a} k = go (rw d at h)
       where
-        go : LabelledAs s t (taking (labelled 35) (onward s t)) (label.Is x u) → OpeningAs s t (class_start (onward s t)) a
+        go : LabelledAs s t (taking (labelled 35) (onward s t)) (Some (x, u)) → OpeningAs s t (class_start (onward s t)) a
         go (labelled_one c e p f) = rw (instances_told (onward s t), e) (k c p f)
 
-    module _ {q : After} (g : AfterIs s u 48 q) where
-      pub no_dot : q ≡ after.No → OpeningAs s t (class_start (onward s t)) opening.No
+    module _ {q : Optional Token} (g : AfterIs s u 48 q) where
+      pub no_dot : q ≡ None → OpeningAs s t (class_start (onward s t)) None
       unfolding instances_by on_some
       no_dot e = on_class_lem (λ c p f. opening_none (rw (words.gone g e)))
 
-      module _ {v : Token} (e : q ≡ after.At v) {q₂ : After} (g₂ : AfterIs s v 6 q₂) where
-        pub no_all : q₂ ≡ after.No → OpeningAs s t (class_start (onward s t)) opening.No
+      module _ {v : Token} (e : q ≡ Some v) {q₂ : Optional Token} (g₂ : AfterIs s v 6 q₂) where
+        pub no_all : q₂ ≡ None → OpeningAs s t (class_start (onward s t)) None
         unfolding instances_by on_some
         no_all e₂ = on_class_lem (λ c p f. opening_none (rw (words.came g e, words.gone g₂ e₂)))
 
-        module _ {w : Token} (e₂ : q₂ ≡ after.At w) {q₃ : After} (g₃ : AfterIs s w 40 q₃) where
-          pub no_open : q₃ ≡ after.No → OpeningAs s t (class_start (onward s t)) opening.No
+        module _ {w : Token} (e₂ : q₂ ≡ Some w) {q₃ : Optional Token} (g₃ : AfterIs s w 40 q₃) where
+          pub no_open : q₃ ≡ None → OpeningAs s t (class_start (onward s t)) None
           unfolding instances_by on_some
           no_open e₃ = on_class_lem (λ c p f. opening_none (rw (words.came g e, words.came g₂ e₂, words.gone g₃ e₃)))
 
-          module _ {y : Token} (e₃ : q₃ ≡ after.At y) {q₄ : After} (g₄ : AfterIs s y 41 q₄) where
-            pub no_close : q₄ ≡ after.No → OpeningAs s t (class_start (onward s t)) opening.No
+          module _ {y : Token} (e₃ : q₃ ≡ Some y) {q₄ : Optional Token} (g₄ : AfterIs s y 41 q₄) where
+            pub no_close : q₄ ≡ None → OpeningAs s t (class_start (onward s t)) None
             unfolding instances_by on_some map_some
             no_close e₄ = on_class_lem (λ c p f. opening_none (rw (words.came g e, words.came g₂ e₂, words.came g₃ e₃, words.gone g₄ e₄)))
 
-            pub all_instances_lem : {z : Token} → q₄ ≡ after.At z → OpeningAs s t (class_start (onward s t)) (opening.All x z)
+            pub all_instances_lem : {z : Token} → q₄ ≡ Some z → OpeningAs s t (class_start (onward s t)) (Some (opening.All x z))
             unfolding instances_by on_some map_some
             all_instances_lem {z} e₄ =
                 on_class_lem (λ c p f. opening_all {u = z} c (rw (words.came g e, words.came g₂ e₂, words.came g₃ e₃, words.came g₄ e₄)) p
@@ -133,23 +130,15 @@ no_kind k h = rw (ne_eqb k 27 (other 27 refl), ne_eqb k 28 (other 28 refl), ne_e
     other : (j : ℕ) → is_collection j ≡ true → k ≢ j
     other j e q = true≢false (sym e ∙ ap is_collection (sym q) ∙ h)
 
-pub below_kinds : (k : ℕ) → k < 27 → false ≡ is_collection k
-unfolding is_collection
-below_kinds k h = rw (lt-leb 27 k h)
-
-pub in_kinds : (k : ℕ) → 27 ≤ k → leb k 29 ≡ is_collection k
-unfolding is_collection
-in_kinds k h = rw (le-leb 27 k h)
-
 -- a code that is a collection's is no end
 pub kind_no_end : {k : ℕ} → is_collection k ≡ true → k ≢ 65
 unfolding is_collection
 kind_no_end {k} h e = true≢false (sym h ∙ ap is_collection e)
 
 module _ {s : Bytes} {t : Token} (h : Ahead s t) where
-  module _ (c : is_collection t.code ≡ true) {u : Token} (m : NextIs s t.end u) {q : After} (g : AfterIs s u 42 q) where
+  module _ (c : is_collection t.code ≡ true) {u : Token} (m : NextIs s t.end u) {q : Optional Token} (g : AfterIs s u 42 q) where
     -- the kind, and what follows it
-    on_kind_lem : {a : Opening} → ((k : Kind) → assemble_code k ≡ t.code → OpeningAs s t (map_some (λ l. braces k l (after "}" l)) (after "{" (onward s u))) a)
+    on_kind_lem : {a : Optional Opening} → ((k : Kind) → assemble_code k ≡ t.code → OpeningAs s t (map_some (λ l. braces k l (after "}" l)) (after "{" (onward s u))) a)
         → OpeningAs s t (other_start (onward s t)) a
     unfolding other_start start_by
     on_kind_lem {a} f = go (a_kind_lem t.code c)
@@ -160,21 +149,21 @@ module _ {s : Bytes} {t : Token} (h : Ahead s t) where
         go : KindCode t.code → OpeningAs s t (other_start (onward s t)) a
         go (kind_code_lem k e d) = rw (words.front h n m, kinds_told (part s t.start t.end), ← words.coded h n, e) (f k d)
 
-    pub no_brace : q ≡ after.No → OpeningAs s t (other_start (onward s t)) opening.No
+    pub no_brace : q ≡ None → OpeningAs s t (other_start (onward s t)) None
     unfolding map_some
     no_brace d = on_kind_lem (λ k e. opening_none (rw (after_brace (onward s u), words.gone g d)))
 
-    module _ {v : Token} (d : q ≡ after.At v) {q₂ : After} (g₂ : AfterIs s v 43 q₂) where
+    module _ {v : Token} (d : q ≡ Some v) {q₂ : Optional Token} (g₂ : AfterIs s v 43 q₂) where
       all_way : {w : Token} → Further s v w → Further s t w
       all_way f = words.farther (words.further h (kind_no_end c) m) (words.farther (words.came_further g d) f)
 
-      pub no_members : {w : Token} → q₂ ≡ after.At w → OpeningAs s t (other_start (onward s t)) (opening.Empty t.code w)
+      pub no_members : {w : Token} → q₂ ≡ Some w → OpeningAs s t (other_start (onward s t)) (Some (opening.Empty t.code w))
       unfolding map_some braces
       no_members {w} e =
           on_kind_lem (λ k f. opening_empty {u = w} k (rw (after_brace (onward s u), words.came g d, after_close_brace (onward s v), words.came g₂ e)) f
           (all_way (words.came_further g₂ e)))
 
-      pub members : q₂ ≡ after.No → OpeningAs s t (other_start (onward s t)) (opening.Members t.code v)
+      pub members : q₂ ≡ None → OpeningAs s t (other_start (onward s t)) (Some (opening.Members t.code v))
       unfolding map_some braces
       members e =
           on_kind_lem (λ k f. opening_members {u = v} k (rw (after_brace (onward s u), words.came g d, after_close_brace (onward s v), words.gone g₂ e)) f
@@ -182,12 +171,12 @@ module _ {s : Bytes} {t : Token} (h : Ahead s t) where
 
   -- ---- the returns of `opening`
 
-  pub at-end : t.code ≡ 65 → OpeningAs s t (other_start (onward s t)) opening.No
+  pub at-end : t.code ≡ 65 → OpeningAs s t (other_start (onward s t)) None
   unfolding other_start
   at-end e = opening_none (rw (h.none e))
 
   module _ {u : Token} (m : NextIs s t.end u) where
-    pub a_condition : t.code ≡ 31 → OpeningAs s t (other_start (onward s t)) (opening.Condition u)
+    pub a_condition : t.code ≡ 31 → OpeningAs s t (other_start (onward s t)) (Some (opening.Condition u))
     unfolding other_start start_by by_code kind_rows
     a_condition c =
         let n : t.code ≢ 65 = λ z. omega arith in
@@ -195,7 +184,7 @@ module _ {s : Bytes} {t : Token} (h : Ahead s t) where
         let y : named kinds (part s t.start t.end) ≡ none = kinds_told (part s t.start t.end) ∙ rw x in
         opening_condition {u = u} (rw (words.front h n m, y, is_bracket (part s t.start t.end), is_if (part s t.start t.end), x)) (words.further h n m)
 
-    pub a_bracket : t.code ≡ 40 → OpeningAs s t (other_start (onward s t)) (opening.Bracket u)
+    pub a_bracket : t.code ≡ 40 → OpeningAs s t (other_start (onward s t)) (Some (opening.Bracket u))
     unfolding other_start start_by by_code kind_rows
     a_bracket c =
         let n : t.code ≢ 65 = λ z. omega arith in
@@ -203,7 +192,7 @@ module _ {s : Bytes} {t : Token} (h : Ahead s t) where
         let y : named kinds (part s t.start t.end) ≡ none = kinds_told (part s t.start t.end) ∙ rw x in
         opening_bracket {u = u} (rw (words.front h n m, y, is_bracket (part s t.start t.end), x)) (words.further h n m)
 
-  pub a_class : {b : Bool} {a : Opening} → b ≡ is_collection t.code → b ≡ false → t.code ≢ 31 → t.code ≢ 40 → t.code ≢ 65
+  pub a_class : {b : Bool} {a : Optional Opening} → b ≡ is_collection t.code → b ≡ false → t.code ≢ 31 → t.code ≢ 40 → t.code ≢ 65
       → OpeningAs s t (class_start (onward s t)) a → OpeningAs s t (other_start (onward s t)) a
   unfolding other_start start_by class_start
   a_class e f x y n k =

@@ -2,11 +2,10 @@
 use mathlib.Core.Path.{◌≡◌, refl, sym, ap, ◌∙◌}
 use mathlib.Core.Logic.{◌≢◌}
 use mathlib.Core.Bool.{Bool, true, false}
-use mathlib.Core.Option.{none}
 use mathlib.Core.List.{List, [], ◌∷◌}
-use Prim.Native.Nat.{ℕ, zero, suc, ◌<◌, ◌≤◌}
+use Prim.Native.Nat.{ℕ, zero, suc, ◌<◌}
 use native.Mathlib.Omega.{arith}
-use borrow.Author.Tests.{ne_eqb, eqb-true, eqb-false, lt-ltb, le-ltb}
+use borrow.Author.Tests.{eqb-true, eqb-false}
 use lib.Dec.{eqb}
 use Rattle.laws.specs.Choice.{map_some}
 use Rattle.ocl.specs.Forms.{plus, minus, times, div, modulo, and, or, equal, less, arith as number, divide, over}
@@ -22,9 +21,9 @@ use Rattle.tokens.specs.declared.Token.{Token}
 use Rattle.tokens.proofs.CodeLaws.{by_code, coded, all_coded, named_told, all_to}
 use Rattle.phrases.specs.Forms.{two_words, level_of, sign_level}
 use Rattle.phrases.specs.Meanings.{SignAs, sign_none, sign_one}
-use Rattle.phrases.specs.declared.Sign.TheVariants as sign
 use Rattle.phrases.proofs.WordLaws as words
 use Rattle.phrases.proofs.RowLaws.{fits, Row, row, off_row, on_row, alone, is_alone, two_alone}
+use Rattle.std.specs.Prelude.{Some, None}
 
 -- ---- the signs of a level by their codes
 
@@ -63,65 +62,25 @@ module _ {s : Bytes} {t : Token} {n : ℕ} (h : Ahead s t) (l : n < 5) {r : ℕ}
   level : t.code ≢ 65 → sign_level (code_of (part s t.start t.end)) ≡ r
   level z = ap sign_level (sym (words.coded h z)) ∙ sym e
 
-  pub other_sign : r ≢ n → SignAs s t (sign_of (level_of n) (onward s t)) sign.No
+  pub other_sign : r ≢ n → SignAs s t (sign_of (level_of n) (onward s t)) None
   unfolding sign_of taking map_some
   other_sign d = go (eqb t.code 65) refl
     where
-      go : (b : Bool) → eqb t.code 65 ≡ b → SignAs s t (sign_of (level_of n) (onward s t)) sign.No
+      go : (b : Bool) → eqb t.code 65 ≡ b → SignAs s t (sign_of (level_of n) (onward s t)) None
       go true q = sign_none (rw (h.none (eqb-true _ _ q)))
       go false q =
           let z : t.code ≢ 65 = eqb-false _ _ q in
           let w = part s t.start t.end in
           sign_none (rw ((h.one z).1, rows_told n l w, off_row (rows n) sign_level two_alone n (all_fit n l) w (λ x. d (sym (level z) ∙ x))))
 
-  pub this_sign : {u : Token} → r ≡ n → NextIs s t.end u → SignAs s t (sign_of (level_of n) (onward s t)) (sign.Is t.code u)
+  pub this_sign : {u : Token} → r ≡ n → NextIs s t.end u → SignAs s t (sign_of (level_of n) (onward s t)) (Some (t.code, u))
   unfolding sign_of taking map_some two_alone
   this_sign {u} d m = go (on_row (rows n) sign_level two_alone n (all_fit n l) (part s t.start t.end) (level z ∙ d))
     where
       z : t.code ≢ 65
       z = λ x. no_end n l (ap sign_level (sym x) ∙ sym e ∙ d)
 
-      go : Row (rows n) two_alone (code_of (part s t.start t.end)) → SignAs s t (sign_of (level_of n) (onward s t)) (sign.Is t.code u)
+      go : Row (rows n) two_alone (code_of (part s t.start t.end)) → SignAs s t (sign_of (level_of n) (onward s t)) (Some (t.code, u))
       go (row f p g) =
           sign_one {k = t.code} {u = u} f (rw (words.front h z m, rows_told n l (part s t.start t.end), p))
           (is_alone (two_words f) t.code (rw (words.coded h z) g)) (words.further h z m)
-
--- ---- the returns of `sign_level`
-
-module _ (k : ℕ) where
-  pub or_level : k ≡ 24 → 0 ≡ sign_level k
-  unfolding sign_level
-  or_level e = rw e
-
-  module _ (a : k ≢ 24) where
-    pub and_level : k ≡ 23 → 1 ≡ sign_level k
-    unfolding sign_level
-    and_level e = rw e
-
-    module _ (b : k ≢ 23) where
-      pub below_level : k < 13 → 5 ≡ sign_level k
-      unfolding sign_level
-      below_level h = rw (ne_eqb _ _ a, ne_eqb _ _ b, lt-ltb _ _ h)
-
-      module _ (c : 13 ≤ k) where
-        pub comparison_level : k < 15 → 2 ≡ sign_level k
-        unfolding sign_level
-        comparison_level h = rw (ne_eqb _ _ a, ne_eqb _ _ b, le-ltb k 13 c, lt-ltb k 15 h)
-
-        module _ (d : 15 ≤ k) where
-          pub sum_level : k < 17 → 3 ≡ sign_level k
-          unfolding sign_level
-          sum_level h = rw (ne_eqb _ _ a, ne_eqb _ _ b, le-ltb k 13 c, le-ltb k 15 d, lt-ltb k 17 h)
-
-          module _ (e : 17 ≤ k) where
-            pub product_level : k < 20 → 4 ≡ sign_level k
-            unfolding sign_level
-            product_level h = rw (ne_eqb _ _ a, ne_eqb _ _ b, le-ltb k 13 c, le-ltb k 15 d, le-ltb k 17 e, lt-ltb k 20 h)
-
-            pub over_level : 20 ≤ k → k ≡ 37 → 4 ≡ sign_level k
-            unfolding sign_level
-            over_level f g = rw g
-
-            pub no_level : 20 ≤ k → k ≢ 37 → 5 ≡ sign_level k
-            unfolding sign_level
-            no_level f g = rw (ne_eqb _ _ a, ne_eqb _ _ b, le-ltb k 13 c, le-ltb k 15 d, le-ltb k 17 e, le-ltb k 20 f, ne_eqb _ _ g)

@@ -4,14 +4,14 @@ use mathlib.Core.Logic.{◌≢◌}
 use mathlib.Core.Bool.{Bool, true, false, not, true≢false}
 use mathlib.Core.Option.{Option, none, some}
 use mathlib.Core.List.{List, [], ◌∷◌}
-use Prim.Native.Nat.{ℕ, ◌+◌, ◌-◌, ◌<◌, ◌≤◌}
+use Prim.Native.Nat.{ℕ, ◌+◌, ◌-◌, ◌<◌}
 use Prim.Native.String.{String}
 use native.Mathlib.Omega.{arith}
-use borrow.Author.Tests.{eq-eqb, ne_eqb, le-leb, lt-leb, leb-true, not-false}
+use borrow.Author.Tests.{eq-eqb, ne_eqb, leb-true, not-false}
 use lib.Dec.{eqb, leb}
 use lib.ListN.{get_or, length}
 use Rattle.laws.specs.Choice.{or_else, on_some, map_some}
-use Rattle.std.specs.Prelude.{if◌then◌else◌}
+use Rattle.std.specs.Prelude.{if◌then◌else◌, Option as Optional, Some, None, Result, Ok}
 use Rattle.laws.proofs.Tests.{and-true}
 use Rattle.laws.proofs.Cases.{AllBelow, from_below}
 use Rattle.laws.proofs.Parts.{part_next}
@@ -24,12 +24,9 @@ use Rattle.sheet.specs.Grammar.Words.{named, labelled, class_word, letters, simp
 use Rattle.sheet.specs.Grammar.Parser.{after, type_in}
 use Rattle.sheet.proofs.Grammar.Single.{is_exact}
 use Rattle.text.specs.Numbers.{cut_num}
-use Rattle.text.specs.declared.numbers.Num.{Num}
 use Rattle.types.specs.Flat.{ty_of, letter_of}
 use Rattle.types.specs.Reading.{big, is as field, type_field, held, byte_code, code_letter, lettered_field, class_field}
 use Rattle.types.specs.declared.FlatType.{FlatType}
-use Rattle.types.specs.declared.GotType.{GotType}
-use Rattle.types.specs.declared.GotType.TheVariants as got
 use Rattle.types.proofs.TypeFields.{is_field, class_held, letter_held}
 use Rattle.tokens.specs.Codes.{codes, or_code, code_of, after_code}
 use Rattle.tokens.specs.Meanings.{part, onward, Ahead, NextIs}
@@ -38,21 +35,10 @@ use Rattle.tokens.proofs.CodeLaws.{by_code, coded, all_coded, named_told, word_t
 use Rattle.tokens.proofs.WordCodes.{after_close, is_bracket}
 use Rattle.phrases.specs.Forms.{is_letter}
 use Rattle.phrases.specs.Meanings.{Further, AfterIs, is_bad, TypeAs, type_none, type_one}
-use Rattle.phrases.specs.declared.After.{After}
-use Rattle.phrases.specs.declared.After.TheVariants as after
-use Rattle.phrases.specs.declared.TypeFound.{TypeFound}
-use Rattle.phrases.specs.declared.TypeFound.TheVariants as type
 use Rattle.phrases.proofs.WordLaws as words
+use Rattle.memory.specs.declared.refusals.Misread.{Misread}
 
 -- ---- `is_letter`
-
-pub below_letters : (k : ℕ) → k < 59 → false ≡ is_letter k
-unfolding is_letter
-below_letters k h = rw (lt-leb 59 k h)
-
-pub in_letters : (k : ℕ) → 59 ≤ k → leb k 62 ≡ is_letter k
-unfolding is_letter
-in_letters k h = rw (le-leb 59 k h)
 
 letter_no_end : {k : ℕ} → is_letter k ≡ true → k ≢ 65
 unfolding is_letter
@@ -69,31 +55,17 @@ simples_told w = named_told simple_types refl w
 
 module _ {s : Bytes} {t : Token} (h : Ahead s t) (n : t.code ≢ 65) where
   -- a base by its row
-  pub a_simple : (k : ℕ) (a : Ty) (r : FlatType) → t.code ≡ k → by_code simples k ≡ some a → ty_of r ≡ a → type_within a ≡ true → type_field (got.Is r) ≡ held (type_word (part s t.start t.end))
+  pub a_simple : (k : ℕ) (a : Ty) (r : FlatType) → t.code ≡ k → by_code simples k ≡ some a → ty_of r ≡ a → type_within a ≡ true → type_field (Ok r) ≡ held (type_word (part s t.start t.end))
   unfolding type_word or_else
   a_simple k a r c e q w = is_field a r (rw (simples_told (part s t.start t.end), ← words.coded h n, c, e)) q w
 
-  pub a_class : (r : GotType) {m : Num} → t.code ≢ 54 → t.code ≢ 55 → t.code ≢ 56 → t.code ≢ 57 → t.code ≢ 58
+  pub a_class : (r : Result FlatType Misread) {m : Optional ℕ} → t.code ≢ 54 → t.code ≢ 55 → t.code ≢ 56 → t.code ≢ 57 → t.code ≢ 58
       → m ≡ cut_num (labelled 35 (part s t.start t.end)) → type_field r ≡ class_field m → type_field r ≡ held (type_word (part s t.start t.end))
   unfolding type_word or_else class_word by_code simples
   a_class r a b c d e p q =
       let x = words.coded h n in
       rw (simples_told (part s t.start t.end), ← x, ne_eqb _ 54 a, ne_eqb _ 55 b, ne_eqb _ 56 c, ne_eqb _ 57 d, ne_eqb _ 58 e)
       (q ∙ ap class_field p ∙ class_held (labelled 35 (part s t.start t.end)))
-
--- ---- `is_bad`
-
-pub bad_is : (g : GotType) → g ≡ got.Bad → true ≡ is_bad (type_field g)
-unfolding is_bad type_field
-bad_is g e = rw e
-
-pub big_is_not : (g : GotType) → g ≡ got.Big → false ≡ is_bad (type_field g)
-unfolding is_bad type_field
-big_is_not g e = rw e
-
-pub type_is_not : (g : GotType) (t : FlatType) → g ≡ got.Is t → false ≡ is_bad (type_field g)
-unfolding is_bad type_field
-type_is_not g t e = rw e
 
 -- ---- types of one token
 
@@ -122,11 +94,11 @@ single_told w (p ∷ s) h = rw (no_letter w h) (go (type_word w) (is p (bytes "(
     go (some t) b = refl
 
 module _ {s : Bytes} {t : Token} (h : Ahead s t) where
-  pub no_type : t.code ≡ 65 → TypeAs s t (type_in (onward s t)) type.No
+  pub no_type : t.code ≡ 65 → TypeAs s t (type_in (onward s t)) None
   unfolding type_in
   no_type e = type_none (rw (h.none e))
 
-  module _ (l : is_letter t.code ≡ false) (n : t.code ≢ 65) (g : GotType) (e : type_field g ≡ held (type_word (part s t.start t.end))) {b : Bool} (q : b ≡ is_bad (type_field g)) where
+  module _ (l : is_letter t.code ≡ false) (n : t.code ≢ 65) (g : Result FlatType Misread) (e : type_field g ≡ held (type_word (part s t.start t.end))) {b : Bool} (q : b ≡ is_bad (type_field g)) where
     other : is_letter (code_of (part s t.start t.end)) ≡ false
     other = ap is_letter (sym (words.coded h n)) ∙ l
 
@@ -141,7 +113,7 @@ module _ {s : Bytes} {t : Token} (h : Ahead s t) where
         go true = refl
         go false = refl
 
-    pub bad_type : b ≡ true → TypeAs s t (type_in (onward s t)) type.No
+    pub bad_type : b ≡ true → TypeAs s t (type_in (onward s t)) None
     unfolding map_some
     bad_type d = type_none (ap type_in (h.one n).1 ∙ single_told _ _ other ∙ ap (map_some (λ a. (a, _))) (go (type_word (part s t.start t.end)) (sym d ∙ judged)))
       where
@@ -149,11 +121,11 @@ module _ {s : Bytes} {t : Token} (h : Ahead s t) where
         go none p = refl
         go (some a) p = absurd (true≢false (p ∙ never_bad a))
 
-    pub good_type : {u : Token} → b ≡ false → NextIs s t.end u → TypeAs s t (type_in (onward s t)) (type.Is g u)
+    pub good_type : {u : Token} → b ≡ false → NextIs s t.end u → TypeAs s t (type_in (onward s t)) (Some (g, u))
     unfolding map_some is_bad held
     good_type {u} d m = go (type_word (part s t.start t.end)) refl (sym d ∙ judged)
       where
-        go : (o : Option Ty) → type_word (part s t.start t.end) ≡ o → false ≡ is_bad (held o) → TypeAs s t (type_in (onward s t)) (type.Is g u)
+        go : (o : Option Ty) → type_word (part s t.start t.end) ≡ o → false ≡ is_bad (held o) → TypeAs s t (type_in (onward s t)) (Some (g, u))
         go none p z = absurd (true≢false (sym z))
         go (some a) p z = type_one {u = u} a (ap type_in (words.front h n m) ∙ single_told _ _ other ∙ rw p) (e ∙ ap held p) (words.further h n m)
 
@@ -210,23 +182,23 @@ letter_told w (p ∷ s) e = rw (e, is_bracket p) (go (eqb (code_of p) 40) (named
     go true (some l) = inner l (type_in s)
 
 -- what an answer says
-module _ {s : Bytes} {t : Token} {o : Option (Ty × Tokens)} {r : TypeFound} (h : TypeAs s t o r) where
-  pub untyped : r ≡ type.No → o ≡ none
+module _ {s : Bytes} {t : Token} {o : Option (Ty × Tokens)} {r : Optional (Result FlatType Misread × Token)} (h : TypeAs s t o r) where
+  pub untyped : r ≡ None → o ≡ none
   untyped d = go (rw d at h)
     where
-      go : TypeAs s t o type.No → o ≡ none
+      go : TypeAs s t o None → o ≡ none
       go (type_none e) = e
 
-  pub typed_further : {g : GotType} {u : Token} → r ≡ type.Is g u → Further s t u
+  pub typed_further : {g : Result FlatType Misread} {u : Token} → r ≡ Some (g, u) → Further s t u
   typed_further {g} {u} d = go (rw d at h)
     where
-      go : TypeAs s t o (type.Is g u) → Further s t u
+      go : TypeAs s t o (Some (g, u)) → Further s t u
       go (type_one a e c f) = f
 
-  pub typed_ahead : {g : GotType} {u : Token} → r ≡ type.Is g u → Ahead s u
+  pub typed_ahead : {g : Result FlatType Misread} {u : Token} → r ≡ Some (g, u) → Ahead s u
   typed_ahead d = (typed_further d).ahead
 
-module _ {s : Bytes} {t : Token} (h : Ahead s t) {b : Bool} (e : b ≡ is_letter t.code) (d : not b ≡ false) {u : Token} (m : NextIs s t.end u) {q : After} (g : AfterIs s u 40 q) where
+module _ {s : Bytes} {t : Token} (h : Ahead s t) {b : Bool} (e : b ≡ is_letter t.code) (d : not b ≡ false) {u : Token} (m : NextIs s t.end u) {q : Optional Token} (g : AfterIs s u 40 q) where
   letter : is_letter t.code ≡ true
   letter = sym e ∙ not-false b d
 
@@ -239,48 +211,48 @@ module _ {s : Bytes} {t : Token} (h : Ahead s t) {b : Bool} (e : b ≡ is_letter
   here : type_word (part s t.start t.end) ≡ none → type_in (onward s t) ≡ type_by (named letters (part s t.start t.end)) (onward s u)
   here z = ap type_in (words.front h no_end m) ∙ letter_told _ _ z
 
-  pub letter_alone : q ≡ after.No → TypeAs s t (type_in (onward s t)) type.No
+  pub letter_alone : q ≡ None → TypeAs s t (type_in (onward s t)) None
   unfolding type_by on_some
   letter_alone x = go told
     where
-      go : LetterWord (part s t.start t.end) → TypeAs s t (type_in (onward s t)) type.No
+      go : LetterWord (part s t.start t.end) → TypeAs s t (type_in (onward s t)) None
       go (letter_word c l y p k z) = type_none (here z ∙ rw (words.gone g x))
 
   pub letter_there : t.start < length s
   letter_there = let o = (h.one no_end).0 in let w = h.within in omega arith
 
   -- the text falls
-  pub member_less : {v : Token} → q ≡ after.At v → length s - v.start < length s - t.start
+  pub member_less : {v : Token} → q ≡ Some v → length s - v.start < length s - t.start
   member_less x =
       let o = (h.one no_end).0 in
       let w = h.within in
       let f = (words.farther (words.further h no_end m) (words.came_further g x)).from in
       omega arith
 
-  module _ {v : Token} (x : q ≡ after.At v) {r : TypeFound} (f : TypeAs s v (type_in (onward s v)) r) where
-    pub no_member : r ≡ type.No → TypeAs s t (type_in (onward s t)) type.No
+  module _ {v : Token} (x : q ≡ Some v) {r : Optional (Result FlatType Misread × Token)} (f : TypeAs s v (type_in (onward s v)) r) where
+    pub no_member : r ≡ None → TypeAs s t (type_in (onward s t)) None
     unfolding type_by on_some
     no_member y = go told
       where
-        go : LetterWord (part s t.start t.end) → TypeAs s t (type_in (onward s t)) type.No
+        go : LetterWord (part s t.start t.end) → TypeAs s t (type_in (onward s t)) None
         go (letter_word c l i p k z) = type_none (here z ∙ rw (words.came g x, p, untyped f y))
 
-    module _ {a : GotType} {w : Token} (y : r ≡ type.Is a w) {q₂ : After} (g₂ : AfterIs s w 41 q₂) where
-      pub member_unclosed : q₂ ≡ after.No → TypeAs s t (type_in (onward s t)) type.No
+    module _ {a : Result FlatType Misread} {w : Token} (y : r ≡ Some (a, w)) {q₂ : Optional Token} (g₂ : AfterIs s w 41 q₂) where
+      pub member_unclosed : q₂ ≡ None → TypeAs s t (type_in (onward s t)) None
       unfolding type_by on_some map_some
       member_unclosed i = go told (rw y at f)
         where
-          go : LetterWord (part s t.start t.end) → TypeAs s v (type_in (onward s v)) (type.Is a w) → TypeAs s t (type_in (onward s t)) type.No
+          go : LetterWord (part s t.start t.end) → TypeAs s v (type_in (onward s v)) (Some (a, w)) → TypeAs s t (type_in (onward s t)) None
           go (letter_word c l j p k z) (type_one ty e₂ _ _) = type_none (here z ∙ rw (words.came g x, p, e₂, words.gone g₂ i))
 
-      pub member_closed : {n : Token} {res : GotType} → q₂ ≡ after.At n → type_field res ≡ lettered_field (byte_code (get_or s t.start 0)) (type_field a) → TypeAs s t (type_in (onward s t)) (type.Is res n)
+      pub member_closed : {n : Token} {res : Result FlatType Misread} → q₂ ≡ Some n → type_field res ≡ lettered_field (byte_code (get_or s t.start 0)) (type_field a) → TypeAs s t (type_in (onward s t)) (Some (res, n))
       unfolding type_by on_some map_some
       member_closed {n} {res} i o = go told (rw y at f)
         where
           first : part s t.start t.end ≡ get_or s t.start 0 ∷ part s (t.start + 1) t.end
           first = part_next 0 s t.start t.end (h.one no_end).0 h.within
 
-          go : LetterWord (part s t.start t.end) → TypeAs s v (type_in (onward s v)) (type.Is a w) → TypeAs s t (type_in (onward s t)) (type.Is res n)
+          go : LetterWord (part s t.start t.end) → TypeAs s v (type_in (onward s v)) (Some (a, w)) → TypeAs s t (type_in (onward s t)) (Some (res, n))
           go (letter_word c l j p k z) (type_one ty e₂ held_so _) =
               let b₀ : get_or s t.start 0 ≡ c = ap (λ (i : Bytes). get_or i 0 0) (sym first ∙ j) in
               type_one {u = n} (around l ty) (here z ∙ rw (words.came g x, p, e₂, words.came g₂ i))

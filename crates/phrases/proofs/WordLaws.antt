@@ -13,18 +13,13 @@ use Rattle.sheet.specs.Grammar.Tokens.{Tokens}
 use Rattle.sheet.specs.Grammar.Words.{labelled, variable_word}
 use Rattle.sheet.specs.Grammar.Parser.{after, taking, binding}
 use Rattle.text.specs.Numbers.{cut, cut_num}
-use Rattle.text.specs.declared.numbers.Num.{Num}
-use Rattle.text.specs.declared.numbers.Num.TheVariants as num
 use Rattle.tokens.specs.Codes.{code_of, head_code, after_code}
 use Rattle.tokens.specs.Meanings.{part, onward, Ahead, NextIs}
 use Rattle.tokens.specs.declared.Token.{Token}
 use Rattle.tokens.proofs.WordCodes.{after_equals}
 use Rattle.phrases.specs.Forms.{labelled_before}
 use Rattle.phrases.specs.Meanings.{Further, AfterIs, after_none, after_one, LabelledAs, labelled_none, labelled_one}
-use Rattle.phrases.specs.declared.After.{After}
-use Rattle.phrases.specs.declared.After.TheVariants as after
-use Rattle.phrases.specs.declared.Labelled.{Labelled}
-use Rattle.phrases.specs.declared.Labelled.TheVariants as label
+use Rattle.std.specs.Prelude.{Option as Optional, Some, None}
 
 -- ---- the token after one
 
@@ -58,33 +53,33 @@ pub same_head : (k : ℕ) (w : Bytes) (l : Tokens) → code_of w ≡ k → after
 unfolding after_code
 same_head k w l e = rw (eq-eqb (code_of w) k e)
 
-pub after_other : {s : Bytes} {t : Token} {k : ℕ} → Ahead s t → t.code ≢ k → AfterIs s t k after.No
+pub after_other : {s : Bytes} {t : Token} {k : ℕ} → Ahead s t → t.code ≢ k → AfterIs s t k None
 after_other {s} {t} {k} h n = after_none (other_head k (onward s t) (λ e. n (h.code ∙ e)))
 
-pub after_here : {s : Bytes} {t u : Token} {k : ℕ} → Ahead s t → k ≢ 65 → t.code ≡ k → NextIs s t.end u → AfterIs s t k (after.At u)
+pub after_here : {s : Bytes} {t u : Token} {k : ℕ} → Ahead s t → k ≢ 65 → t.code ≡ k → NextIs s t.end u → AfterIs s t k (Some u)
 after_here {s} {t} {u} {k} h n e m =
     let q : t.code ≢ 65 = λ d. n (sym e ∙ d) in
     after_one (ap (after_code k) (front h q m) ∙ same_head k _ _ (sym (coded h q) ∙ e)) (further h q m)
 
 -- what an answer of `after` says
-module _ {s : Bytes} {t : Token} {k : ℕ} {r : After} (h : AfterIs s t k r) where
-  pub gone : r ≡ after.No → after_code k (onward s t) ≡ none
+module _ {s : Bytes} {t : Token} {k : ℕ} {r : Optional Token} (h : AfterIs s t k r) where
+  pub gone : r ≡ None → after_code k (onward s t) ≡ none
   gone d = go (rw d at h)
     where
-      go : AfterIs s t k after.No → after_code k (onward s t) ≡ none
+      go : AfterIs s t k None → after_code k (onward s t) ≡ none
       go (after_none e) = e
 
-  module _ {u : Token} (d : r ≡ after.At u) where
+  module _ {u : Token} (d : r ≡ Some u) where
     pub came : after_code k (onward s t) ≡ some (onward s u)
     came = go (rw d at h)
       where
-        go : AfterIs s t k (after.At u) → after_code k (onward s t) ≡ some (onward s u)
+        go : AfterIs s t k (Some u) → after_code k (onward s t) ≡ some (onward s u)
         go (after_one e f) = e
 
     pub came_further : Further s t u
     came_further = go (rw d at h)
       where
-        go : AfterIs s t k (after.At u) → Further s t u
+        go : AfterIs s t k (Some u) → Further s t u
         go (after_one e f) = f
 
     pub came_ahead : Ahead s u
@@ -93,60 +88,60 @@ module _ {s : Bytes} {t : Token} {k : ℕ} {r : After} (h : AfterIs s t k r) whe
 -- ---- `labelled_at`
 
 module _ {s : Bytes} {t : Token} (l : ℕ) (h : Ahead s t) where
-  pub labelled_end : t.code ≡ 65 → LabelledAs s t (taking (labelled l) (onward s t)) label.No
+  pub labelled_end : t.code ≡ 65 → LabelledAs s t (taking (labelled l) (onward s t)) None
   unfolding taking
   labelled_end e = labelled_none (rw (h.none e))
 
-  module _ (n : t.code ≢ 65) {r : Num} (e : r ≡ cut_num (labelled l (part s t.start t.end))) where
-    pub labelled_bad : r ≡ num.Bad → LabelledAs s t (taking (labelled l) (onward s t)) label.No
+  module _ (n : t.code ≢ 65) {r : Optional ℕ} (e : r ≡ cut_num (labelled l (part s t.start t.end))) where
+    pub labelled_bad : r ≡ None → LabelledAs s t (taking (labelled l) (onward s t)) None
     unfolding taking map_some cut_num
     labelled_bad d = labelled_none (rw (h.one n).1 (go (labelled l (part s t.start t.end)) _ (sym d ∙ e)))
       where
-        go : {A : Type 0} (o : Option ℕ) (f : ℕ → A) → num.Bad ≡ cut_num o → map_some f o ≡ none
+        go : {A : Type 0} (o : Option ℕ) (f : ℕ → A) → None ≡ cut_num o → map_some f o ≡ none
         go none f q = refl
         go (some x) f q = absurd (let z : ◌≡◌ {A = ℕ} 0 1 = cc in omega arith)
 
-    pub labelled_is : {x : ℕ} {u : Token} → r ≡ num.Is x → NextIs s t.end u → LabelledAs s t (taking (labelled l) (onward s t)) (label.Is x u)
+    pub labelled_is : {x : ℕ} {u : Token} → r ≡ Some x → NextIs s t.end u → LabelledAs s t (taking (labelled l) (onward s t)) (Some (x, u))
     unfolding taking map_some cut_num
     labelled_is {x} {u} d m = go (labelled l (part s t.start t.end)) refl (sym d ∙ e)
       where
-        go : (o : Option ℕ) → labelled l (part s t.start t.end) ≡ o → num.Is x ≡ cut_num o → LabelledAs s t (taking (labelled l) (onward s t)) (label.Is x u)
+        go : (o : Option ℕ) → labelled l (part s t.start t.end) ≡ o → Some x ≡ cut_num o → LabelledAs s t (taking (labelled l) (onward s t)) (Some (x, u))
         go none p q = absurd (let z : ◌≡◌ {A = ℕ} 0 1 = cc in omega arith)
         go (some y) p q = labelled_one {u = u} y (rw (front h n m, p)) (let z : x ≡ cut y = cc in z) (further h n m)
 
 -- ---- `labelled_before`
 
-module _ {s : Bytes} {t : Token} {o : Option (ℕ × Tokens)} {r : Labelled} (h : LabelledAs s t o r) where
-  pub unlabelled : r ≡ label.No → o ≡ none
+module _ {s : Bytes} {t : Token} {o : Option (ℕ × Tokens)} {r : Optional (ℕ × Token)} (h : LabelledAs s t o r) where
+  pub unlabelled : r ≡ None → o ≡ none
   unlabelled d = go (rw d at h)
     where
-      go : LabelledAs s t o label.No → o ≡ none
+      go : LabelledAs s t o None → o ≡ none
       go (labelled_none e) = e
 
-  pub labelled_ahead : {x : ℕ} {u : Token} → r ≡ label.Is x u → Ahead s u
+  pub labelled_ahead : {x : ℕ} {u : Token} → r ≡ Some (x, u) → Ahead s u
   labelled_ahead {x} {u} d = go (rw d at h)
     where
-      go : LabelledAs s t o (label.Is x u) → Ahead s u
+      go : LabelledAs s t o (Some (x, u)) → Ahead s u
       go (labelled_one n e c f) = f.ahead
 
-module _ {s : Bytes} {t : Token} (l k : ℕ) {r : Labelled} (h : LabelledAs s t (taking (labelled l) (onward s t)) r) where
-  pub before_none : r ≡ label.No → LabelledAs s t (labelled_before l k (onward s t)) label.No
+module _ {s : Bytes} {t : Token} (l k : ℕ) {r : Optional (ℕ × Token)} (h : LabelledAs s t (taking (labelled l) (onward s t)) r) where
+  pub before_none : r ≡ None → LabelledAs s t (labelled_before l k (onward s t)) None
   unfolding labelled_before on_some
   before_none d = labelled_none (rw (unlabelled h d))
 
-  module _ {x : ℕ} {u : Token} (d : r ≡ label.Is x u) {q : After} (a : AfterIs s u k q) where
-    pub before_gone : q ≡ after.No → LabelledAs s t (labelled_before l k (onward s t)) label.No
+  module _ {x : ℕ} {u : Token} (d : r ≡ Some (x, u)) {q : Optional Token} (a : AfterIs s u k q) where
+    pub before_gone : q ≡ None → LabelledAs s t (labelled_before l k (onward s t)) None
     unfolding labelled_before on_some map_some
     before_gone e = go (rw d at h) (gone a e)
       where
-        go : LabelledAs s t (taking (labelled l) (onward s t)) (label.Is x u) → after_code k (onward s u) ≡ none → LabelledAs s t (labelled_before l k (onward s t)) label.No
+        go : LabelledAs s t (taking (labelled l) (onward s t)) (Some (x, u)) → after_code k (onward s u) ≡ none → LabelledAs s t (labelled_before l k (onward s t)) None
         go (labelled_one n p c f) z = labelled_none (rw (p, z))
 
-    pub before_is : {v : Token} → q ≡ after.At v → LabelledAs s t (labelled_before l k (onward s t)) (label.Is x v)
+    pub before_is : {v : Token} → q ≡ Some v → LabelledAs s t (labelled_before l k (onward s t)) (Some (x, v))
     unfolding labelled_before on_some map_some
     before_is {v} e = go (rw d at h) (came a e) (came_further a e)
       where
-        go : LabelledAs s t (taking (labelled l) (onward s t)) (label.Is x u) → after_code k (onward s u) ≡ some (onward s v) → Further s u v → LabelledAs s t (labelled_before l k (onward s t)) (label.Is x v)
+        go : LabelledAs s t (taking (labelled l) (onward s t)) (Some (x, u)) → after_code k (onward s u) ≡ some (onward s v) → Further s u v → LabelledAs s t (labelled_before l k (onward s t)) (Some (x, v))
         go (labelled_one n p c f) z g = labelled_one {u = v} n (rw (p, z)) c (farther f g)
 
 -- ---- a word behind a number, by its code

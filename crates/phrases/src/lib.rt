@@ -3,41 +3,14 @@
 // the codes of forms. Numbers are those that `text` reads, a million at most; `next` is the token that comes next.
 #![tactic(auto)]
 
+use memory::refusals::Misread;
 use tokens::Token;
-use types::GotType;
+use types::FlatType;
 
 pub mod words; // a word, a variable, a `let` head, a two-sided sign
 pub mod typed; // a type
 pub mod steps; // a postfix step
 pub mod openings; // a primary
-
-// The token after one that was looked for.
-#[derive(Clone, Copy)]
-pub enum After {
-    No,
-    At(Token),
-}
-
-// A number behind its letter, or in `v1 =`.
-#[derive(Clone, Copy)]
-pub enum Labelled {
-    No,
-    Is { n: u64, next: Token },
-}
-
-// A two-sided sign by the code of its form.
-#[derive(Clone, Copy)]
-pub enum Sign {
-    No,
-    Is { code: u64, next: Token },
-}
-
-// A type; it may be over its limits, but is not badly spelled.
-#[derive(Clone, Copy)]
-pub enum TypeFound {
-    No,
-    Is { of: GotType, next: Token },
-}
 
 // A postfix step: none, one that breaks off, one that is done, or operands come next: one, or two with `|` between them. `x` is the class,
 // attribute or definition of its form, 0 where there is none.
@@ -58,7 +31,7 @@ pub enum Postfix {
     Iteration {
         i: u64,
         j: u64,
-        of: GotType,
+        of: Result<FlatType, Misread>,
         next: Token,
     },
 }
@@ -66,7 +39,6 @@ pub enum Postfix {
 // A primary that is no leaf: done, or an expression, a condition or members come next.
 #[derive(Clone, Copy)]
 pub enum Opening {
-    No,
     All { class: u64, next: Token },
     Bracket(Token),
     Condition(Token),

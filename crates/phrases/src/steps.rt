@@ -12,9 +12,9 @@ ghost use Rattle.tokens.specs.Signs as sign;
 ghost use Rattle.phrases.specs.Forms.{cast_step, call_kind};
 ghost use Rattle.phrases.specs.Meanings.{StepAs, StandsAs};
 
+use super::Postfix;
 use super::typed::type_in;
 use super::words::{after, labelled_at, labelled_before};
-use super::{After, Labelled, Postfix, TypeFound};
 use memory::codes;
 use tokens::{Token, next_token, signs};
 
@@ -24,7 +24,7 @@ fn closing(s: &[u8], t: Token, code: u64, x: u64) -> Postfix
     ensures { (f : One) → StandsAs f code x → StepAs s.now t (or_broken (map_some (plain f) (after_code sign.close_bracket (onward s.now t)))) result }
 {
     let closed = after(s, t, signs::CLOSE_BRACKET);
-    let After::At(next) = closed else {
+    let Some(next) = closed else {
         return Postfix::Broken;
     };
     Postfix::Plain { code, x, next }
@@ -36,7 +36,7 @@ fn empty_call(s: &[u8], t: Token, code: u64, x: u64) -> Postfix
     ensures { (f : One) → StandsAs f code x → StepAs s.now t (or_broken (map_some (plain f) (after_call (onward s.now t)))) result }
 {
     let opened = after(s, t, signs::OPEN_BRACKET);
-    let After::At(u) = opened else {
+    let Some(u) = opened else {
         return Postfix::Broken;
     };
     closing(s, u, code, x)
@@ -48,11 +48,11 @@ fn cast_step(s: &[u8], t: Token) -> Postfix
     ensures { StepAs s.now t (or_broken (cast_step (onward s.now t))) result }
 {
     let opened = after(s, t, signs::OPEN_BRACKET);
-    let After::At(u) = opened else {
+    let Some(u) = opened else {
         return Postfix::Broken;
     };
     let class = labelled_before(s, u, b'#', signs::CLOSE_BRACKET);
-    let Labelled::Is { n, next } = class else {
+    let Some((n, next)) = class else {
         return Postfix::Broken;
     };
     Postfix::Plain {
@@ -68,7 +68,7 @@ fn dot_step(s: &[u8], t: Token) -> Postfix
     ensures { StepAs s.now t (or_broken (dot_step (onward s.now t))) result }
 {
     let attribute = labelled_at(s, t, b'a');
-    if let Labelled::Is { n, next } = attribute {
+    if let Some((n, next)) = attribute {
         return Postfix::Plain {
             code: codes::OF_OBJECT,
             x: n,
@@ -76,7 +76,7 @@ fn dot_step(s: &[u8], t: Token) -> Postfix
         };
     }
     let definition = labelled_at(s, t, b'd');
-    if let Labelled::Is { n, next } = definition {
+    if let Some((n, next)) = definition {
         return empty_call(s, next, codes::CALL, n);
     }
     let e = t.end;
@@ -94,7 +94,7 @@ fn quantified_step(s: &[u8], t: Token, code: u64) -> Postfix
     ensures { (q : Quantifier) → quantifier_code q ≡ code → StepAs s.now t (or_broken (quantified_step (quantified q) (onward s.now t))) result }
 {
     let variable = labelled_before(s, t, b'v', signs::BAR);
-    let Labelled::Is { n, next } = variable else {
+    let Some((n, next)) = variable else {
         return Postfix::Broken;
     };
     Postfix::Argument {
@@ -110,7 +110,7 @@ fn collect_step(s: &[u8], t: Token) -> Postfix
     ensures { StepAs s.now t (or_broken (collect_step (onward s.now t))) result }
 {
     let attribute = labelled_before(s, t, b'a', signs::CLOSE_BRACKET);
-    let Labelled::Is { n, next } = attribute else {
+    let Some((n, next)) = attribute else {
         return Postfix::Broken;
     };
     Postfix::Plain {
@@ -126,19 +126,19 @@ fn iterate_step(s: &[u8], t: Token) -> Postfix
     ensures { StepAs s.now t (or_broken (iterate_step (onward s.now t))) result }
 {
     let member = labelled_before(s, t, b'v', signs::SEMICOLON);
-    let Labelled::Is { n: i, next: u } = member else {
+    let Some((i, u)) = member else {
         return Postfix::Broken;
     };
     let result = labelled_before(s, u, b'v', signs::COLON);
-    let Labelled::Is { n: j, next: v } = result else {
+    let Some((j, v)) = result else {
         return Postfix::Broken;
     };
     let typed = type_in(s, v);
-    let TypeFound::Is { of, next: w } = typed else {
+    let Some((of, w)) = typed else {
         return Postfix::Broken;
     };
     let equals = after(s, w, codes::EQUAL);
-    let After::At(next) = equals else {
+    let Some(next) = equals else {
         return Postfix::Broken;
     };
     Postfix::Iteration { i, j, of, next }
@@ -149,28 +149,14 @@ fn iterate_step(s: &[u8], t: Token) -> Postfix
 fn call_kind(code: u64) -> u64
     ensures { result ≡ call_kind code }
 {
-    if code < codes::SIZE_OF {
-        return 0;
+    match code {
+        codes::SIZE_OF..=codes::TO_BAG => 1,
+        codes::INCLUDES..=codes::UNION => 2,
+        codes::FOR_ALL..=codes::EXISTS => 3,
+        codes::OF_MEMBERS => 4,
+        codes::ITERATE => 5,
+        _ => 0,
     }
-    if code < codes::CAST_TO {
-        return 1;
-    }
-    if code < codes::INCLUDES {
-        return 0;
-    }
-    if code < codes::AND {
-        return 2;
-    }
-    if code < codes::FOR_ALL {
-        return 0;
-    }
-    if code < codes::SET {
-        return 3;
-    }
-    if code == codes::OF_MEMBERS {
-        return 4;
-    }
-    if code == codes::ITERATE { 5 } else { 0 }
 }
 
 // The step by the code of its form's word; t is the token after the bracket.
@@ -202,7 +188,7 @@ fn arrow_step(s: &[u8], t: Token) -> Postfix
     }
     let e = t.end;
     let opened = after(s, next_token(s, e), signs::OPEN_BRACKET);
-    let After::At(u) = opened else {
+    let Some(u) = opened else {
         return Postfix::Broken;
     };
     call_step(s, u, t.code)

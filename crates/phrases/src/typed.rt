@@ -10,70 +10,60 @@ ghost use Rattle.phrases.specs.Forms.{is_letter};
 ghost use Rattle.phrases.specs.Meanings.{TypeAs, is_bad};
 
 use super::words::after;
-use super::{After, TypeFound};
+use memory::refusals::Misread;
 use tokens::{Token, label, next_token, signs};
 use types::parts::plain;
 use types::reading::{class_of, lettered};
-use types::{Base, GotType};
+use types::{Base, FlatType};
 
 // The type that a token is by itself.
-fn type_word(s: &[u8], t: Token) -> GotType
+fn type_word(s: &[u8], t: Token) -> Result<FlatType, Misread>
     requires { Ahead s.now t × (t.code ≢ sign.end) }
     ensures { type_field result ≡ held (type_word (part s.now t.start t.end)) }
 {
     let code = t.code;
     match code {
-        signs::VOID => GotType::Is(plain(Base::Void)),
-        signs::BOOL => GotType::Is(plain(Base::Bool)),
-        signs::INT => GotType::Is(plain(Base::Int)),
-        signs::REAL => GotType::Is(plain(Base::Real)),
-        signs::ANY => GotType::Is(plain(Base::Any)),
+        signs::VOID => Ok(plain(Base::Void)),
+        signs::BOOL => Ok(plain(Base::Bool)),
+        signs::INT => Ok(plain(Base::Int)),
+        signs::REAL => Ok(plain(Base::Real)),
+        signs::ANY => Ok(plain(Base::Any)),
         _ => class_of(label(s, t, b'#')),
     }
 }
 
 // Whether no type was spelled.
-fn is_bad(g: GotType) -> bool
+fn is_bad(g: Result<FlatType, Misread>) -> bool
     ensures { result ≡ is_bad (type_field g) }
 {
-    match g {
-        GotType::Bad => true,
-        GotType::Big => false,
-        GotType::Is(_) => false,
-    }
+    matches!(g, Err(Misread::Malformed))
 }
 
 // A type of one token.
-fn single_type(s: &[u8], t: Token) -> TypeFound
+fn single_type(s: &[u8], t: Token) -> Option<(Result<FlatType, Misread>, Token)>
     requires { Ahead s.now t × (is_letter t.code ≡ false) }
     ensures { TypeAs s.now t (type_in (onward s.now t)) result }
 {
     if t.code == signs::END {
-        return TypeFound::No;
+        return None;
     }
     let of = type_word(s, t);
     if is_bad(of) {
-        return TypeFound::No;
+        return None;
     }
     let e = t.end;
-    TypeFound::Is {
-        of,
-        next: next_token(s, e),
-    }
+    Some((of, next_token(s, e)))
 }
 
 // Whether the code is that of a collection's letter.
 fn is_letter(code: u64) -> bool
     ensures { result ≡ is_letter code }
 {
-    if code < signs::SET_LETTER {
-        return false;
-    }
-    code <= signs::COLLECTION_LETTER
+    matches!(code, signs::SET_LETTER..=signs::COLLECTION_LETTER)
 }
 
 // The type that begins at t: one token, or a letter with a type in brackets.
-pub fn type_in(s: &[u8], t: Token) -> TypeFound
+pub fn type_in(s: &[u8], t: Token) -> Option<(Result<FlatType, Misread>, Token)>
     requires { Ahead s.now t }
     ensures { TypeAs s.now t (type_in (onward s.now t)) result }
 {
@@ -81,21 +71,9 @@ pub fn type_in(s: &[u8], t: Token) -> TypeFound
         return single_type(s, t);
     }
     let e = t.end;
-    let opened = after(s, next_token(s, e), signs::OPEN_BRACKET);
-    let After::At(u) = opened else {
-        return TypeFound::No;
-    };
-    let member = type_in(s, u);
-    let TypeFound::Is { of, next } = member else {
-        return TypeFound::No;
-    };
-    let closed = after(s, next, signs::CLOSE_BRACKET);
-    let After::At(last) = closed else {
-        return TypeFound::No;
-    };
+    let u = after(s, next_token(s, e), signs::OPEN_BRACKET)?;
+    let (of, next) = type_in(s, u)?;
+    let last = after(s, next, signs::CLOSE_BRACKET)?;
     let a = t.start;
-    TypeFound::Is {
-        of: lettered(s[a], of),
-        next: last,
-    }
+    Some((lettered(s[a], of), last))
 }

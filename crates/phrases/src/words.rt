@@ -7,57 +7,46 @@ ghost use Rattle.tokens.specs.Signs as sign;
 ghost use Rattle.phrases.specs.Forms.{level_of, sign_level, labelled_before};
 ghost use Rattle.phrases.specs.Meanings.{AfterIs, LabelledAs, SignAs};
 
-use super::{After, Labelled, Sign};
 use memory::codes;
-use text::numbers::Num;
 use tokens::{Token, label, next_token, signs};
 
 // The token after one of this code.
-pub fn after(s: &[u8], t: Token, code: u64) -> After
+pub fn after(s: &[u8], t: Token, code: u64) -> Option<Token>
     requires { Ahead s.now t × (code ≢ sign.end) }
     ensures { AfterIs s.now t code result }
 {
     if t.code != code {
-        return After::No;
+        return None;
     }
     let e = t.end;
-    After::At(next_token(s, e))
+    Some(next_token(s, e))
 }
 
 // A number behind this letter, and the token after it.
-pub fn labelled_at(s: &[u8], t: Token, letter: u8) -> Labelled
+pub fn labelled_at(s: &[u8], t: Token, letter: u8) -> Option<(u64, Token)>
     requires { Ahead s.now t }
     ensures { LabelledAs s.now t (taking (labelled letter) (onward s.now t)) result }
 {
     if t.code == signs::END {
-        return Labelled::No;
+        return None;
     }
-    let Num::Is(n) = label(s, t, letter) else {
-        return Labelled::No;
-    };
+    let n = label(s, t, letter)?;
     let e = t.end;
-    Labelled::Is {
-        n,
-        next: next_token(s, e),
-    }
+    Some((n, next_token(s, e)))
 }
 
 // A number behind this letter, and the token after one more token, of this code.
-pub fn labelled_before(s: &[u8], t: Token, letter: u8, code: u64) -> Labelled
+pub fn labelled_before(s: &[u8], t: Token, letter: u8, code: u64) -> Option<(u64, Token)>
     requires { Ahead s.now t × (code ≢ sign.end) }
     ensures { LabelledAs s.now t (labelled_before letter code (onward s.now t)) result }
 {
-    let Labelled::Is { n, next } = labelled_at(s, t, letter) else {
-        return Labelled::No;
-    };
-    let After::At(u) = after(s, next, code) else {
-        return Labelled::No;
-    };
-    Labelled::Is { n, next: u }
+    let (n, next) = labelled_at(s, t, letter)?;
+    let u = after(s, next, code)?;
+    Some((n, u))
 }
 
 // `v1 =`, after `let`.
-pub fn binding(s: &[u8], t: Token) -> Labelled
+pub fn binding(s: &[u8], t: Token) -> Option<(u64, Token)>
     requires { Ahead s.now t }
     ensures { LabelledAs s.now t (bindingOf (onward s.now t)) result }
 {
@@ -68,38 +57,24 @@ pub fn binding(s: &[u8], t: Token) -> Labelled
 fn sign_level(code: u64) -> u64
     ensures { result ≡ sign_level code }
 {
-    if code == codes::OR {
-        return 0;
+    match code {
+        codes::OR => 0,
+        codes::AND => 1,
+        codes::EQUAL..=codes::LESS => 2,
+        codes::PLUS..=codes::MINUS => 3,
+        codes::TIMES..=codes::MODULO | codes::OVER => 4,
+        _ => 5,
     }
-    if code == codes::AND {
-        return 1;
-    }
-    if code < codes::EQUAL {
-        return 5;
-    }
-    if code < codes::PLUS {
-        return 2;
-    }
-    if code < codes::TIMES {
-        return 3;
-    }
-    if code < codes::INCLUDES {
-        return 4;
-    }
-    if code == codes::OVER { 4 } else { 5 }
 }
 
 // A sign of the level.
-pub fn sign(s: &[u8], t: Token, level: u64) -> Sign
+pub fn sign(s: &[u8], t: Token, level: u64) -> Option<(u64, Token)>
     requires { Ahead s.now t × (level < 5) }
     ensures { SignAs s.now t (sign_of (level_of level) (onward s.now t)) result }
 {
     if sign_level(t.code) != level {
-        return Sign::No;
+        return None;
     }
     let e = t.end;
-    Sign::Is {
-        code: t.code,
-        next: next_token(s, e),
-    }
+    Some((t.code, next_token(s, e)))
 }

@@ -1,5 +1,5 @@
 // What the programs print for a text. Document 01, Calls; document 02, F-9, F-11 and F-12. It depends on `checker` for the calls, on
-// `opening` for what they return, and on `text` for writing a refusal.
+// `opening` for what they return, on `text` for writing a refusal, and on `input` for reading.
 #![tactic(auto)]
 
 ghost use Rattle.std.specs.Prelude.{◌≡◌, length};
@@ -10,6 +10,8 @@ ghost use Rattle.sheet.specs.Rows.{rows_program};
 ghost use Rattle.sheet.specs.Origin.{origin_program};
 ghost use Rattle.printing.specs.Answered.{Prints};
 ghost use Rattle.printing.specs.Printed.{Front};
+
+pub mod programs; // a text read, and what is printed for it written
 
 use checker::profile_call::ocl_read_free_numbering;
 use checker::report_call::ocl_report;

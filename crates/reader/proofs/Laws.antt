@@ -1,5 +1,5 @@
 -- A line, the end of a definition or rule before it and the text's end, put together as reading is defined. Assumes nothing.
-use mathlib.Core.Path.{◌≡◌, refl, sym, ◌∙◌, subst}
+use mathlib.Core.Path.{◌≡◌, refl, sym, ap, ◌∙◌, subst}
 use mathlib.Core.Logic.{◌≢◌}
 use mathlib.Core.Bool.{Bool, true, false, ◌||◌}
 use mathlib.Core.Option.{Option, none, some}
@@ -21,17 +21,17 @@ use Rattle.sheet.proofs.Acceptance.{GoodStep, good_step, no_step, good_fields, g
 use Rattle.text.specs.Words.{byte_kind, only_byte}
 use Rattle.text.proofs.WordLaws.{is_class_line, is_row_line, is_object_line, is_value_line, is_definition_line, is_rule_line, is_node_line, is_text_line}
 use Rattle.tables.specs.declared.Counts.{Counts}
-use Rattle.tables.specs.declared.Step.{Step as CodeStep}
-use Rattle.tables.specs.declared.Step.TheVariants as code
 use Rattle.tables.specs.Layout.{open_code, Holds, HoldsOpen, closed, opened, Fine, Moved, moved_next, moved_refused, Took}
 use Rattle.tables.proofs.Tables.{kept_refl, kept_then}
 use Rattle.slots.specs.Slots.{TookSlot}
 use Rattle.texts.specs.Judging.{TookText}
 use Rattle.trees.specs.Rules.{RuleRoom, EndMoved, ended, RuleEnded}
 use Rattle.reader.specs.Meanings.{body_kind, placed_at, GoesOn, goes_on, refuses, TookLine, TookWhole, EndsAs, a_sheet, a_refusal, TookLast}
-use Rattle.reader.specs.declared.LineRead.TheVariants as line_code
-use Rattle.reader.specs.declared.SheetRead.{SheetRead}
-use Rattle.reader.specs.declared.SheetRead.TheVariants as sheet
+use Rattle.std.specs.Prelude.{Result, Ok, Err}
+use Rattle.memory.specs.Refusals.{at}
+use Rattle.memory.specs.declared.refusals.Refusal.{Refusal}
+use Rattle.memory.specs.declared.refusals.Refusal.TheVariants.{BadLine}
+use Rattle.memory.specs.declared.refusals.Refused.{Refused}
 
 -- ---- the first field's letter
 
@@ -40,7 +40,7 @@ unfolding in_body is bytes
 first-is [] = refl
 first-is (w ∷ fs) = refl
 
-pub kind_node : (k : ℕ) → k ≡ 6 → true ≡ body_kind k
+pub kind_node : (k : ℕ) → k ≡ 6 → eqb k 6 ≡ body_kind k
 unfolding body_kind
 kind_node k e = rw (eq-eqb k 6 e)
 
@@ -103,22 +103,27 @@ unknown_line fs kind e a b c d f i g =
 
 -- ---- a line and the end of a definition or rule before it
 
-pub by_any : {st : Counts} {k : ℕ} {line : Bytes} {r : CodeStep} {w0 w1 v0 v1 : List ℕ} → Took st k line r w0 w1 v0 v1 → TookLine st k line r w0 w1 v0 v1
+pub by_any : {st : Counts} {k : ℕ} {line : Bytes} {r : Result Counts Refusal} {w0 w1 v0 v1 : List ℕ} → Took st k line r w0 w1 v0 v1 → TookLine st k line r w0 w1 v0 v1
 by_any t = record { is = λ s h m. t.is s h; kept0 = t.kept0; kept1 = t.kept1 }
 
-pub by_slot : {st : Counts} {k : ℕ} {line : Bytes} {r : CodeStep} {w0 w1 v0 v1 : List ℕ} → TookSlot st k line r w0 w1 v0 v1 → TookLine st k line r w0 w1 v0 v1
+pub by_slot : {st : Counts} {k : ℕ} {line : Bytes} {r : Result Counts Refusal} {w0 w1 v0 v1 : List ℕ} → TookSlot st k line r w0 w1 v0 v1 → TookLine st k line r w0 w1 v0 v1
 by_slot t = record { is = λ s h m. t.is s h (record { rows = each_imp (λ x o. o.low_row) m.slots }); kept0 = t.kept0; kept1 = t.kept1 }
 
-pub by_node : {st : Counts} {k : ℕ} {line : Bytes} {r : CodeStep} {w0 w1 v1 : List ℕ} (w2 : List ℕ) → Took st k line r w0 w1 w0 v1 → TookText st k line r w0 w1 w2 v1 w2
+pub by_node : {st : Counts} {k : ℕ} {line : Bytes} {r : Result Counts Refusal} {w0 w1 v1 : List ℕ} (w2 : List ℕ) → Took st k line r w0 w1 w0 v1 → TookText st k line r w0 w1 w2 v1 w2
 by_node w2 t = record { took = t; kept2 = kept_refl w2 }
 
 -- a step at line k
-at_line : {v0 v1 : List ℕ} {r : CodeStep} {x : Step} (k : ℕ) (f : Sheet → Reading) → Moved v0 v1 r x → GoodStep x → GoesOn v0 v1 f (placed_at r k) (on_step x k f)
+at_line : {v0 v1 : List ℕ} {r : Result Counts Refusal} {x : Step} (k : ℕ) (f : Sheet → Reading) → Moved v0 v1 r x → GoodStep x → GoesOn v0 v1 f (placed_at r k) (on_step x k f)
 unfolding on_step
 at_line k f (moved_next g h) (good_step t) = goes_on g h t
 at_line k f moved_refused no_step = refuses
 
-pub ended_fine : {v0 w1 : List ℕ} {r : CodeStep} {o : Option Sheet} (st : Counts) → EndMoved v0 w1 r o → r ≡ code.Next st → Fine st
+-- a step that is placed as `Ok` was one
+pub placed_ok : (k : ℕ) {st : Counts} (r : Result Counts Refusal) → placed_at r k ≡ Ok st → r ≡ Ok st
+placed_ok k {st} (Ok su) e = let z : su ≡ st = cc in ap Ok z
+placed_ok k (Err n) e = absurd (let z : ◌≡◌ {A = ℕ} 0 1 = cc in omega arith)
+
+pub ended_fine : {v0 w1 : List ℕ} {r : Result Counts Refusal} {o : Option Sheet} (st : Counts) → EndMoved v0 w1 r o → r ≡ Ok st → Fine st
 ended_fine st (ended {st = su} g h) e = let z : su ≡ st = cc in subst Fine z g
 ended_fine st EndMoved.refused e = absurd (let z : ◌≡◌ {A = ℕ} 0 1 = cc in omega arith)
 
@@ -140,7 +145,7 @@ rule_room {st} {w0} {w1} s h t = record { room = (by s.current refl h.current).0
     by (some c) e (opened z) = by_type c e c.result refl z.is_open
 
 module _ (st : Counts) (k : ℕ) (line : Bytes) where
-  pub body_whole : {r : CodeStep} {w0 w1 w2 v1 v2 : List ℕ} → in_body (fields_of line) ≡ true → TookText st (k + 1) line r w0 w1 w2 v1 v2 → TookWhole st k line (placed_at r (k + 1)) w0 w1 w2 w0 v1 v2
+  pub body_whole : {r : Result Counts Refusal} {w0 w1 w2 v1 v2 : List ℕ} → in_body (fields_of line) ≡ true → TookText st (k + 1) line r w0 w1 w2 v1 v2 → TookWhole st k line (placed_at r (k + 1)) w0 w1 w2 w0 v1 v2
   unfolding closing
   body_whole e t = record {
     is = λ s h m f. rw (e, ← add-one k) (at_line (k + 1) f (t.took.is s h) (good_fields s (k + 1) (fields_of line) m));
@@ -149,20 +154,21 @@ module _ (st : Counts) (k : ℕ) (line : Bytes) where
     kept2 = t.kept2;
   }
 
-  end_stop : {v0 w1 : List ℕ} {n : ℕ} {o : Option Sheet} (f g : Sheet → Reading) → EndMoved v0 w1 (code.Refused n) o → GoesOn v0 w1 f (line_code.Refused n k) (on_end o k g)
+  end_stop : {v0 w1 : List ℕ} {r : Result Counts Refusal} {d : Refused} {o : Option Sheet} (f g : Sheet → Reading) → EndMoved v0 w1 r o → placed_at r k ≡ Err d → GoesOn v0 w1 f (Err d) (on_end o k g)
   unfolding on_end
-  end_stop f g EndMoved.refused = refuses
+  end_stop f g (ended a h) q = absurd (let z : ◌≡◌ {A = ℕ} 0 1 = cc in omega arith)
+  end_stop f g EndMoved.refused q = rw (← q) refuses
 
-  pub stop_whole : {n : ℕ} {w0 w1 v0 : List ℕ} (w2 : List ℕ) → in_body (fields_of line) ≡ false → RuleEnded st (code.Refused n) w0 w1 v0 → TookWhole st k line (line_code.Refused n k) w0 w1 w2 v0 w1 w2
+  pub stop_whole : {r : Result Counts Refusal} {d : Refused} {w0 w1 v0 : List ℕ} (w2 : List ℕ) → in_body (fields_of line) ≡ false → RuleEnded st r w0 w1 v0 → placed_at r k ≡ Err d → TookWhole st k line (Err d) w0 w1 w2 v0 w1 w2
   unfolding closing
-  stop_whole {w1 = w1} w2 e t = record { is = λ s h m f. rw e (end_stop f _ (t.is s h)); kept0 = t.kept; kept1 = kept_refl w1; kept2 = kept_refl w2 }
+  stop_whole {w1 = w1} w2 e t q = record { is = λ s h m f. rw e (end_stop f _ (t.is s h) q); kept0 = t.kept; kept1 = kept_refl w1; kept2 = kept_refl w2 }
 
-  end_next : {v0 w1 u0 : List ℕ} {su : Counts} {r : CodeStep} {o : Option Sheet} (f : Sheet → Reading) → EndMoved v0 w1 (code.Next su) o → All? Good o → TookLine su (k + 1) line r v0 w1 u0 w1
+  end_next : {v0 w1 u0 : List ℕ} {su : Counts} {r : Result Counts Refusal} {o : Option Sheet} (f : Sheet → Reading) → EndMoved v0 w1 (Ok su) o → All? Good o → TookLine su (k + 1) line r v0 w1 u0 w1
       → GoesOn u0 w1 f (placed_at r (k + 1)) (on_end o k (λ t. on_step (step t (suc k) (fields_of line)) (suc k) f))
   unfolding on_end
   end_next f (ended {s = s} g h) (all_some m) t = rw (← add-one k) (at_line (k + 1) f (t.is s h m) (good_fields s (k + 1) (fields_of line) m))
 
-  pub next_whole : {su : Counts} {r : CodeStep} {w0 w1 v0 u0 : List ℕ} (w2 : List ℕ) → in_body (fields_of line) ≡ false → RuleEnded st (code.Next su) w0 w1 v0 → TookLine su (k + 1) line r v0 w1 u0 w1
+  pub next_whole : {su : Counts} {r : Result Counts Refusal} {w0 w1 v0 u0 : List ℕ} (w2 : List ℕ) → in_body (fields_of line) ≡ false → RuleEnded st (Ok su) w0 w1 v0 → TookLine su (k + 1) line r v0 w1 u0 w1
       → TookWhole st k line (placed_at r (k + 1)) w0 w1 w2 u0 w1 w2
   unfolding closing
   next_whole w2 e t q = record { is = λ s h m f. rw e (end_next f (t.is s h) (good_end_rule s m) q); kept0 = kept_then t.kept q.kept0; kept1 = q.kept1; kept2 = kept_refl w2 }
@@ -186,31 +192,32 @@ body_part s k (b ∷ l) e = rw e
 
 module _ (st : Counts) (k : ℕ) (part : Bytes) where
   -- it is a letter and so not empty
-  pub body_last : {w0 w1 : List ℕ} → in_body (fields_of part) ≡ true → TookLast st k part (sheet.Refused 3 (k + 1)) w0 w1 w0 w1
+  pub body_last : {w0 w1 : List ℕ} → in_body (fields_of part) ≡ true → TookLast st k part (Err (at BadLine (k + 1))) w0 w1 w0 w1
   body_last {w0} {w1} e = record { is = λ s h. rw (body_part s k part e, ← add-one k) a_refusal; kept0 = kept_refl w0; kept1 = kept_refl w1 }
 
-  last_stop : {v0 w1 : List ℕ} {n : ℕ} {o : Option Sheet} (g : Sheet → Reading) → EndMoved v0 w1 (code.Refused n) o → EndsAs v0 w1 (sheet.Refused n k) (on_end o k g)
+  last_stop : {v0 w1 : List ℕ} {r : Result Counts Refusal} {d : Refused} {o : Option Sheet} (g : Sheet → Reading) → EndMoved v0 w1 r o → placed_at r k ≡ Err d → EndsAs v0 w1 (Err d) (on_end o k g)
   unfolding on_end
-  last_stop g EndMoved.refused = a_refusal
+  last_stop g (ended a h) q = absurd (let z : ◌≡◌ {A = ℕ} 0 1 = cc in omega arith)
+  last_stop g EndMoved.refused q = rw (← q) a_refusal
 
-  pub stop_last : {n : ℕ} {w0 w1 v0 : List ℕ} → in_body (fields_of part) ≡ false → RuleEnded st (code.Refused n) w0 w1 v0 → TookLast st k part (sheet.Refused n k) w0 w1 v0 w1
+  pub stop_last : {r : Result Counts Refusal} {d : Refused} {w0 w1 v0 : List ℕ} → in_body (fields_of part) ≡ false → RuleEnded st r w0 w1 v0 → placed_at r k ≡ Err d → TookLast st k part (Err d) w0 w1 v0 w1
   unfolding read_lines closing
-  stop_last {w1 = w1} e t = record { is = λ s h. rw e (last_stop (read_last k part) (t.is s h)); kept0 = t.kept; kept1 = kept_refl w1 }
+  stop_last {w1 = w1} e t q = record { is = λ s h. rw e (last_stop (read_last k part) (t.is s h) q); kept0 = t.kept; kept1 = kept_refl w1 }
 
-  last_next : {v0 w1 : List ℕ} {su : Counts} {r : SheetRead} {o : Option Sheet} (g : Sheet → Reading) → EndMoved v0 w1 (code.Next su) o
+  last_next : {v0 w1 : List ℕ} {su : Counts} {r : Result Counts Refused} {o : Option Sheet} (g : Sheet → Reading) → EndMoved v0 w1 (Ok su) o
       → ((s : Sheet) → Fine su → Holds su v0 w1 s → EndsAs v0 w1 r (g s)) → EndsAs v0 w1 r (on_end o k g)
   unfolding on_end
   last_next g (ended {s = s} a h) q = q s a h
 
-  next_last : {su : Counts} {r : SheetRead} {w0 w1 v0 : List ℕ} → in_body (fields_of part) ≡ false → RuleEnded st (code.Next su) w0 w1 v0
+  next_last : {su : Counts} {r : Result Counts Refused} {w0 w1 v0 : List ℕ} → in_body (fields_of part) ≡ false → RuleEnded st (Ok su) w0 w1 v0
       → ((s : Sheet) → Fine su → Holds su v0 w1 s → EndsAs v0 w1 r (read_last k part s)) → TookLast st k part r w0 w1 v0 w1
   unfolding read_lines closing
   next_last {w1 = w1} e t q = record { is = λ s h. rw e (last_next (read_last k part) (t.is s h) q); kept0 = t.kept; kept1 = kept_refl w1 }
 
-  pub sheet_last : {su : Counts} {w0 w1 v0 : List ℕ} → in_body (fields_of part) ≡ false → RuleEnded st (code.Next su) w0 w1 v0 → length part ≡ 0
-      → TookLast st k part (sheet.Sheet su) w0 w1 v0 w1
+  pub sheet_last : {su : Counts} {w0 w1 v0 : List ℕ} → in_body (fields_of part) ≡ false → RuleEnded st (Ok su) w0 w1 v0 → length part ≡ 0
+      → TookLast st k part (Ok su) w0 w1 v0 w1
   sheet_last e t z = next_last e t (λ s a h. rw (last_empty k part s z) (a_sheet a h))
 
-  pub left_last : {su : Counts} {w0 w1 v0 : List ℕ} → in_body (fields_of part) ≡ false → RuleEnded st (code.Next su) w0 w1 v0 → length part ≢ 0
-      → TookLast st k part (sheet.Refused 3 (k + 1)) w0 w1 v0 w1
+  pub left_last : {su : Counts} {w0 w1 v0 : List ℕ} → in_body (fields_of part) ≡ false → RuleEnded st (Ok su) w0 w1 v0 → length part ≢ 0
+      → TookLast st k part (Err (at BadLine (k + 1))) w0 w1 v0 w1
   left_last e t z = next_last e t (λ s a h. rw (last_left k part s z, ← add-one k) a_refusal)

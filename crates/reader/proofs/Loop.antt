@@ -19,9 +19,9 @@ use Rattle.tables.specs.declared.Counts.{Counts}
 use Rattle.tables.specs.Layout.{Holds, closed, Kept, no_counts, starts_from, cells_of, lines_in}
 use Rattle.tables.proofs.Tables.{kept_refl, kept_then}
 use Rattle.reader.specs.Meanings.{HeldSheet, GoesOn, goes_on, refuses, TookWhole, EndsAs, a_refusal, TookLast, ReadsTo}
-use Rattle.reader.specs.declared.LineRead.TheVariants as line
-use Rattle.reader.specs.declared.SheetRead.{SheetRead}
-use Rattle.reader.specs.declared.SheetRead.TheVariants as sheet
+use Rattle.std.specs.Prelude.{Result, Ok, Err}
+use Rattle.memory.specs.Refusals.{number}
+use Rattle.memory.specs.declared.refusals.Refused.{Refused}
 
 -- ---- before the first line
 
@@ -77,14 +77,14 @@ some_lines : (s : Bytes) → 0 < length (lines_of s)
 unfolding lines_of
 some_lines s = (split_laws 10).some_part s
 
-refused_is : {v0 v1 : List ℕ} {f : Sheet → Reading} {n p : ℕ} {x : Reading} → GoesOn v0 v1 f (line.Refused n p) x → x ≡ rejected n p
+refused_is : {v0 v1 : List ℕ} {f : Sheet → Reading} {e : Refused} {x : Reading} → GoesOn v0 v1 f (Err e) x → x ≡ rejected (number e.refusal) e.place
 refused_is refuses = refl
 
 record Onward (v0 v1 : List ℕ) (f : Sheet → Reading) (st : Counts) (x : Reading) : Type 0 where
   held : HeldSheet st v0 v1
   is : x ≡ f held.sheet
 
-next_is : {v0 v1 : List ℕ} {f : Sheet → Reading} {st : Counts} {x : Reading} → GoesOn v0 v1 f (line.Next st) x → Onward v0 v1 f st x
+next_is : {v0 v1 : List ℕ} {f : Sheet → Reading} {st : Counts} {x : Reading} → GoesOn v0 v1 f (Ok st) x → Onward v0 v1 f st x
 next_is (goes_on {s = s} g h m) = record { held = record { sheet = s; holds = h; fine = g; good = m }; is = refl }
 
 module _ {text : Bytes} {u0 u1 u2 w0 w1 w2 : List ℕ} {rest : Bytes} {st : Counts} {k e : ℕ} (going : Going text u0 u1 u2 w0 w1 w2 rest st k e) where
@@ -95,7 +95,7 @@ module _ {text : Bytes} {u0 u1 u2 w0 w1 w2 : List ℕ} {rest : Bytes} {st : Coun
   whole_is : e < length rest → closing going.held.sheet k (fields_of (take e rest)) (λ t. on_step (step t (suc k) (fields_of (take e rest))) (suc k) (λ u. read_lines u (suc k) (lines_of (drop (e + 1) rest)))) ≡ read_lines empty 0 (lines_of text)
   whole_is h = sym (read_line going.held.sheet k (take e rest) (lines_of (drop (e + 1) rest)) (some_lines (drop (e + 1) rest))) ∙ ap (read_lines going.held.sheet k) (sym (lines_split h)) ∙ going.same
 
-  pub going_refused : {v0 v1 v2 : List ℕ} {n p : ℕ} → e < length rest → TookWhole st k (take e rest) (line.Refused n p) w0 w1 w2 v0 v1 v2 → ReadsTo text (sheet.Refused n p) u0 u1 u2 v0 v1 v2
+  pub going_refused : {v0 v1 v2 : List ℕ} {r : Refused} → e < length rest → TookWhole st k (take e rest) (Err r) w0 w1 w2 v0 v1 v2 → ReadsTo text (Err r) u0 u1 u2 v0 v1 v2
   going_refused h t = record {
     is = subst (EndsAs _ _ _) (sym (refused_is (t.is going.held.sheet going.held.holds going.held.good _)) ∙ whole_is h) a_refusal;
     kept0 = kept_then going.kept0 t.kept0;
@@ -103,7 +103,7 @@ module _ {text : Bytes} {u0 u1 u2 w0 w1 w2 : List ℕ} {rest : Bytes} {st : Coun
     kept2 = kept_then going.kept2 t.kept2;
   }
 
-  going_on : {v0 v1 v2 : List ℕ} {su : Counts} {d : ℕ} → e < length rest → TookWhole st k (take e rest) (line.Next su) w0 w1 w2 v0 v1 v2 → PartEnd 10 (drop (e + 1) rest) d
+  going_on : {v0 v1 v2 : List ℕ} {su : Counts} {d : ℕ} → e < length rest → TookWhole st k (take e rest) (Ok su) w0 w1 w2 v0 v1 v2 → PartEnd 10 (drop (e + 1) rest) d
       → Going text u0 u1 u2 v0 v1 v2 (drop (e + 1) rest) su (k + 1) d
   going_on h t n = let x = next_is (t.is going.held.sheet going.held.holds going.held.good (λ u. read_lines u (suc k) (lines_of (drop (e + 1) rest)))) in record {
     held = x.held;
@@ -116,7 +116,7 @@ module _ {text : Bytes} {u0 u1 u2 w0 w1 w2 : List ℕ} {rest : Bytes} {st : Coun
   }
 
   -- the rest as the code has it, a part with an end
-  pub going_next : {v0 v1 v2 : List ℕ} {su : Counts} {d : ℕ} → e < length rest → TookWhole st k (take e rest) (line.Next su) w0 w1 w2 v0 v1 v2
+  pub going_next : {v0 v1 v2 : List ℕ} {su : Counts} {d : ℕ} → e < length rest → TookWhole st k (take e rest) (Ok su) w0 w1 w2 v0 v1 v2
       → PartEnd 10 (take (length rest - (e + 1)) (drop (e + 1) rest)) d → Going text u0 u1 u2 v0 v1 v2 (take (length rest - (e + 1)) (drop (e + 1) rest)) su (k + 1) d
   going_next h t n = rw (part_all rest (e + 1)) (going_on h t (rw (part_all rest (e + 1)) at n))
 
@@ -124,7 +124,7 @@ module _ {text : Bytes} {u0 u1 u2 w0 w1 w2 : List ℕ} {rest : Bytes} {st : Coun
   unfolding lines_of
   lines_last h = only_part going.ends h
 
-  pub going_last : {v0 v1 : List ℕ} {r : SheetRead} → length rest ≤ e → TookLast st k rest r w0 w1 v0 v1 → ReadsTo text r u0 u1 u2 v0 v1 w2
+  pub going_last : {v0 v1 : List ℕ} {r : Result Counts Refused} → length rest ≤ e → TookLast st k rest r w0 w1 v0 v1 → ReadsTo text r u0 u1 u2 v0 v1 w2
   going_last h t = record {
     is = subst (EndsAs _ _ _) (ap (read_lines going.held.sheet k) (sym (lines_last h)) ∙ going.same) (t.is going.held.sheet going.held.holds);
     kept0 = kept_then going.kept0 t.kept0;

@@ -17,36 +17,20 @@ use declarations::objects::object_line;
 use declarations::rows::row_line;
 use declarations::rules::rule_line;
 use memory::lines;
+use memory::refusals::{Refusal, Refused};
 use slots::line::value_line;
-use tables::{Counts, Step};
+use tables::Counts;
 use text::parts::{Fields, cut, field, find};
 use text::words::{byte_kind, letter};
 use texts::line::text_line;
 use trees::ending::end_rule;
 use trees::node::node_line;
 
-// After a line: the counts with it, or a refusal's number and line.
-#[derive(Clone, Copy)]
-pub enum LineRead {
-    Next(Counts),
-    Refused(u64, u64),
-}
-
-// After a text: the counts of its sheet, or a refusal's number and line.
-#[derive(Clone, Copy)]
-pub enum SheetRead {
-    Sheet(Counts),
-    Refused(u64, u64),
-}
-
 // Whether a line of this kind (`byte_kind`) belongs to the open definition or rule: an N line or an X line.
 fn in_body(kind: u64) -> bool
     ensures { result ≡ body_kind kind }
 {
-    if kind == lines::NODE_LINE {
-        return true;
-    }
-    kind == lines::TEXT_LINE
+    kind == lines::NODE_LINE || kind == lines::TEXT_LINE
 }
 
 // Takes line k, which belongs to the open definition or rule.
@@ -59,7 +43,7 @@ fn body_line(
     w2: &mut [u64],
     st: Counts,
     k: u64,
-) -> Step
+) -> Result<Counts, Refusal>
     requires { Cut line.now f × (kind ≡ byte_kind (only_byte (get_or (fields_of line.now) 0 []))) × (body_kind kind ≡ true) × (least_words ≤ length w0.now) × (least_words ≤ length w1.old) × (least_words ≤ length w2.old) × Fine st }
     ensures { TookText st k line.now result w0.now w1.old w2.old w1.new w2.new }
 {
@@ -70,7 +54,13 @@ fn body_line(
 }
 
 // Takes any other line, by its kind.
-fn other_line(kind: u64, line: &[u8], f: Fields, w0: &mut [u64], st: Counts) -> Step
+fn other_line(
+    kind: u64,
+    line: &[u8],
+    f: Fields,
+    w0: &mut [u64],
+    st: Counts,
+) -> Result<Counts, Refusal>
     requires { Cut line.now f × (kind ≡ byte_kind (only_byte (get_or (fields_of line.now) 0 []))) × (body_kind kind ≡ false) × (least_words ≤ length w0.old) × Fine st }
     ensures { (w1 : List ℕ) (k : ℕ) → TookLine st k line.now result w0.old w1 w0.new w1 }
 {
@@ -81,17 +71,17 @@ fn other_line(kind: u64, line: &[u8], f: Fields, w0: &mut [u64], st: Counts) -> 
         lines::VALUE_LINE => value_line(line, f, w0, st),
         lines::RULE_LINE => rule_line(line, f, st),
         lines::DEFINITION_LINE => definition_line(line, f, st),
-        _ => Step::Refused(3),
+        _ => Err(Refusal::BadLine),
     }
 }
 
-// A line's step, with the line's number where it refuses.
-fn placed(s: Step, k: u64) -> LineRead
+// A step, with a line's number where it refuses.
+fn placed(s: Result<Counts, Refusal>, k: u64) -> Result<Counts, Refused>
     ensures { result ≡ placed_at s k }
 {
     match s {
-        Step::Next(st) => LineRead::Next(st),
-        Step::Refused(n) => LineRead::Refused(n, k),
+        Ok(st) => Ok(st),
+        Err(e) => Err(e.at(k)),
     }
 }
 
@@ -103,7 +93,7 @@ fn line_read(
     w2: &mut [u64],
     st: Counts,
     k: u64,
-) -> LineRead
+) -> Result<Counts, Refused>
     requires { (least_words ≤ length w0.old) × (least_words ≤ length w1.old) × (least_words ≤ length w2.old) × HeldSheet st w0.old w1.old × (k < 100000) }
     ensures { TookWhole st k line.now result w0.old w1.old w2.old w0.new w1.new w2.new }
 {
@@ -113,36 +103,30 @@ fn line_read(
         let step = body_line(kind, line, f, w0, w1, w2, st, k + 1);
         return placed(step, k + 1);
     }
-    match end_rule(w0, w1, st) {
-        Step::Refused(n) => LineRead::Refused(n, k),
-        Step::Next(next) => placed(other_line(kind, line, f, w0, next), k + 1),
-    }
+    let next = placed(end_rule(w0, w1, st), k)?;
+    placed(other_line(kind, line, f, w0, next), k + 1)
 }
 
 // The text's last part, after k lines: it must be empty, and an open definition or rule ends with the text.
-fn last_read(part: &[u8], w0: &mut [u64], w1: &[u64], st: Counts, k: u64) -> SheetRead
+fn last_read(part: &[u8], w0: &mut [u64], w1: &[u64], st: Counts, k: u64) -> Result<Counts, Refused>
     requires { (least_words ≤ length w0.old) × (least_words ≤ length w1.now) × HeldSheet st w0.old w1.now × (k < 100000) }
     ensures { TookLast st k part.now result w0.old w1.now w0.new w1.now }
 {
     let f = cut(part);
     let kind = byte_kind(letter(field(part, f, 0)));
     if in_body(kind) {
-        return SheetRead::Refused(3, k + 1);
+        return Err(Refusal::BadLine.at(k + 1));
     }
-    match end_rule(w0, w1, st) {
-        Step::Refused(n) => SheetRead::Refused(n, k),
-        Step::Next(next) => {
-            if part.len() == 0 {
-                SheetRead::Sheet(next)
-            } else {
-                SheetRead::Refused(3, k + 1)
-            }
-        }
+    let next = placed(end_rule(w0, w1, st), k)?;
+    if part.is_empty() {
+        Ok(next)
+    } else {
+        Err(Refusal::BadLine.at(k + 1))
     }
 }
 
 // Reads a text of at most 49,152 bytes. The nodes of an X line wait in w2 while they are judged; nothing reads them afterwards.
-pub fn read(text: &[u8], w0: &mut [u64], w1: &mut [u64], w2: &mut [u64]) -> SheetRead
+pub fn read(text: &[u8], w0: &mut [u64], w1: &mut [u64], w2: &mut [u64]) -> Result<Counts, Refused>
     requires { (least_words ≤ length w0.old) × (least_words ≤ length w1.old) × (least_words ≤ length w2.old) × (length text.now ≤ most_bytes) }
     ensures { ReadsTo text.now result w0.old w1.old w2.old w0.new w1.new w2.new }
 {
@@ -151,14 +135,7 @@ pub fn read(text: &[u8], w0: &mut [u64], w1: &mut [u64], w2: &mut [u64]) -> Shee
     let mut k: u64 = 0;
     let mut e = find(rest, 10);
     while e < rest.len() {
-        match line_read(&rest[..e], w0, w1, w2, st, k) {
-            LineRead::Refused(n, p) => {
-                return SheetRead::Refused(n, p);
-            }
-            LineRead::Next(next) => {
-                st = next;
-            }
-        }
+        st = line_read(&rest[..e], w0, w1, w2, st, k)?;
         rest = &rest[e + 1..];
         k += 1;
         e = find(rest, 10);

@@ -9,7 +9,7 @@ use native.Mathlib.Nat.{zero-add}
 use borrow.Author.Tests.{lt-ltb, le-ltb}
 use lib.Dec.{ltb}
 use lib.ListN.{length, get_elem?}
-use Rattle.std.specs.Prelude.{if◌then◌else◌}
+use Rattle.std.specs.Prelude.{if◌then◌else◌, Result, Ok, Err}
 use Rattle.laws.specs.Lists.{member, concat}
 use Rattle.ocl.specs.Types.{Ty}
 use Rattle.sheet.specs.Text.{Bytes}
@@ -31,8 +31,6 @@ use Rattle.rows.proofs.RuleLaws.{accepted_rooted}
 use Rattle.moves.specs.Joined.{joined, replaced, EndsAt, start_in, Rising, Stand, Standing, Told, they_stand, none_stand}
 use Rattle.moves.specs.Moves.{Places, PlacesAs, fits, too_long}
 use Rattle.moves.proofs.JoinedLaws.{joined_same, joined_cons, start_at_lem, rising}
-use Rattle.renewal.specs.declared.Renewal.{Renewal}
-use Rattle.renewal.specs.declared.Renewal.TheVariants as code
 use Rattle.renewal.specs.declared.fresh.Sums.{Sums}
 use Rattle.renewal.specs.Touched.{Touches, TellsTouched}
 use Rattle.renewal.specs.Fresh.{KnownAccepted, lines_at, FreshAll}
@@ -40,6 +38,9 @@ use Rattle.renewal.specs.Spread.{Held, Placing, SomePlacing, Rearranges}
 use Rattle.renewal.specs.Renewed.{pieces, written, GivesRenewal, RenewsTouched, Renews}
 use Rattle.renewal.specs.Renewed.{too_long as says-long}
 use Rattle.renewal.proofs.FreshRuleLaws.{lines_at_lem}
+use Rattle.memory.specs.Refusals.{at}
+use Rattle.memory.specs.declared.refusals.Refused.{Refused}
+use Rattle.memory.specs.declared.refusals.Refusal.TheVariants.{BoardFull, SlipTooLong}
 
 -- ---- lists of pieces
 
@@ -129,7 +130,7 @@ module _ {st : Counts} {w0 w1 w2 v2 : List ℕ} {touched : ℕ} {fresh : List �
       some_placing k o = record { sheet = k.sheet; types = k.types; old = o.pieces; is = placing k.accepted o.stand.ended }
 
       pub renewed_written : {x2 : List ℕ} {now : Bytes} {n : ℕ} → Rearranges st w0 w1 touched ends fresh buf placed v2 x2 out now → n ≡ start_in placed rules
-          → RenewsTouched st w0 w1 w2 x2 touched ends out now was placed (code.Written n sums.steps)
+          → RenewsTouched st w0 w1 w2 x2 touched ends out now was placed (Ok (n, sums.steps))
       renewed_written {x2} {now} {n} m l = record {
         for = λ s ts g a z ls c stand. gives s ts g a z ls c stand;
         size = m.size;
@@ -138,7 +139,7 @@ module _ {st : Counts} {w0 w1 w2 v2 : List ℕ} {touched : ℕ} {fresh : List �
       }
         where
           gives : (s : Sheet) (ts : List Ty) (g : Accepted st w0 w1 s ts) (a : ℕ) (z : Touches touched s a) (ls : List Bytes) (c : length ls ≡ st.rules)
-              (stand : Stand ends out (pieces ls) st.rules) → GivesRenewal out now placed st.rules s a ls (code.Written n sums.steps)
+              (stand : Stand ends out (pieces ls) st.rules) → GivesRenewal out now placed st.rules s a ls (Ok (n, sums.steps))
           gives s ts g a z ls c stand =
               let q = placing g stand.ended in
               let all = concat (renewed s a 0 s.rules ls) in
@@ -154,7 +155,7 @@ module _ {st : Counts} {w0 w1 w2 v2 : List ℕ} {touched : ℕ} {fresh : List �
               }
 
     -- or they are too long
-    pub renewed_short : b ≡ false → RenewsTouched st w0 w1 w2 v2 touched ends out out was placed code.Short
+    pub renewed_short : b ≡ false → RenewsTouched st w0 w1 w2 v2 touched ends out out was placed (Err (at SlipTooLong 0))
     renewed_short bad = record {
       for = λ s ts g a z ls c stand.
           let test = short g z ls c stand in
@@ -174,7 +175,7 @@ module _ {st : Counts} {w0 w1 w2 v2 : List ℕ} {touched : ℕ} {fresh : List �
 -- ---- the rules that were resolved to the row
 
 module _ {st : Counts} {w0 w1 w2 v2 : List ℕ} {a : ℕ} (sees : SeesAll w1 w2 v2) where
-  pub renews : {touched : ℕ} {x2 ends : List ℕ} {out now : Bytes} {was placed : List ℕ} {r : Renewal} → TellsTouched st w0 v2 a touched
+  pub renews : {touched : ℕ} {x2 ends : List ℕ} {out now : Bytes} {was placed : List ℕ} {r : Result (ℕ × ℕ) Refused} → TellsTouched st w0 v2 a touched
       → RenewsTouched st w0 w1 v2 x2 touched ends out now was placed r → Renews st w0 w1 w2 x2 a ends out now was placed r
   renews tells p = record {
     for = λ s ts g ls c stand. p.for s ts g a (tells.is w1 sees.seen s ts g) ls c stand;
@@ -184,7 +185,7 @@ module _ {st : Counts} {w0 w1 w2 v2 : List ℕ} {a : ℕ} (sees : SeesAll w1 w2 
   }
 
   pub foreign : {ends : List ℕ} {out : Bytes} {rules : ℕ} {b : Bool} (placed : List ℕ) → rules ≡ st.rules → Told ends out rules b → b ≡ false
-      → Renews st w0 w1 w2 v2 a ends out out placed placed code.Foreign
+      → Renews st w0 w1 w2 v2 a ends out out placed placed (Err (at BoardFull 1))
   foreign {ends} {out} {rules} placed e told bad = record {
     for = λ s ts g ls c stand. absurd (by (rw (e, bad) at told) (pieces ls) stand);
     size = refl;

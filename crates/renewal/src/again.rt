@@ -47,10 +47,8 @@ pub fn again_lines(
     ensures { PutsAgain (all_lines r) st w0.now w1.now r at w2.old w2.new out.old out.new result }
 {
     let mut end = at;
-    let mut o: u64 = 0;
-    while o < st.objects {
+    for o in 0..st.objects {
         end = again_line(w0, st, w1, w2, r, o, end, out);
-        o += 1;
     }
     end
 }

@@ -25,10 +25,7 @@ fn line_place(bytes: usize, room: usize) -> usize
     requires { least_output ≤ room }
     ensures { result ≡ min bytes (room - least_output) }
 {
-    if bytes <= room - memory::LEAST_OUTPUT {
-        return bytes;
-    }
-    room - memory::LEAST_OUTPUT
+    bytes.min(room - memory::LEAST_OUTPUT)
 }
 
 // Adds the line and the steps of rule r for object o, if it is of the rule's class or below.
@@ -73,10 +70,8 @@ fn fresh_lines(
     ensures { AddsFresh (all_lines r) all_steps 222624 96000000 st w0.now w1.now r was w2.old w2.new buf.old buf.new result }
 {
     let mut sums = was;
-    let mut o: u64 = 0;
-    while o < st.objects {
+    for o in 0..st.objects {
         sums = fresh_line(w0, st, w1, w2, r, o, buf, sums);
-        o += 1;
     }
     sums
 }
@@ -118,11 +113,9 @@ pub fn fresh_rules(
 {
     let rules = wide(st.rules);
     let mut sums = Sums { bytes: 0, steps: 0 };
-    let mut r: usize = 0;
-    while r < rules {
+    for r in 0..rules {
         sums = told_lines(w0, st, w1, w2, touched, r, buf, sums);
         ends[r] = sums.bytes as u64;
-        r += 1;
     }
     sums
 }

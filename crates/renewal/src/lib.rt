@@ -15,6 +15,7 @@ ghost use Rattle.renewal.specs.Fresh.{KnownAccepted};
 ghost use Rattle.renewal.specs.Renewed.{RenewsTouched, Renews};
 
 use fresh::fresh_rules;
+use memory::refusals::{Refusal, Refused};
 use memory::words::wide;
 use moves::ends::{can_stand, start_of};
 use moves::placed::place;
@@ -22,14 +23,6 @@ use rows::seen::see_rows;
 use spread::rearrange;
 use tables::Counts;
 use touched::touched_rules;
-
-// How renewing ends: with so many bytes and steps; with verdicts that are longer than their bytes; or on a board that no call has made.
-#[derive(Clone, Copy)]
-pub enum Renewal {
-    Written(usize, u64),
-    Short,
-    Foreign,
-}
 
 // How many bytes the buffer has: for fresh lines and, behind them, for one line that is only counted.
 const FRESH_BYTES: usize = 16_384 + memory::LEAST_OUTPUT;
@@ -45,7 +38,7 @@ fn renew_touched(
     ends: &[u64],
     out: &mut [u8],
     placed: &mut [u64],
-) -> Renewal
+) -> Result<(usize, u64), Refused>
     requires least_words_in_bounds { (least_words ≤ length w0.now) × (least_words ≤ length w1.now) × (least_words ≤ length w2.old) × KnownAccepted st w0.now w1.now }
     requires most_rules_in_bounds { (most_rules ≤ length ends.now) × (most_rules ≤ length placed.old) × Standing ends.now out.old st.rules }
     ensures { RenewsTouched st w0.now w1.now w2.old w2.new touched ends.now out.old out.new placed.old placed.new result }
@@ -56,9 +49,9 @@ fn renew_touched(
     let sums = fresh_rules(w0, st, w1, w2, touched, &mut buf, &mut fresh);
     if place(ends, &fresh, rules, touched, out.len(), placed) {
         rearrange(w0, st, w1, w2, touched, ends, &fresh, &buf, placed, out);
-        return Renewal::Written(start_of(placed, rules), sums.steps);
+        return Ok((start_of(placed, rules), sums.steps));
     }
-    Renewal::Short
+    Err(Refusal::SlipTooLong.at(0))
 }
 
 // Renews the verdicts after an edit of the row, where w0 has the slots after it. `ends` is where each rule's verdicts ended, and `placed`
@@ -72,7 +65,7 @@ pub fn renew(
     ends: &[u64],
     out: &mut [u8],
     placed: &mut [u64],
-) -> Renewal
+) -> Result<(usize, u64), Refused>
     requires least_words_in_bounds { (least_words ≤ length w0.now) × (least_words ≤ length w1.now) × (least_words ≤ length w2.old) × KnownAccepted st w0.now w1.now }
     requires row_lt_most_rows { (row < most_rows) × (most_rules ≤ length ends.now) × (most_rules ≤ length placed.old) }
     ensures { Renews st w0.now w1.now w2.old w2.new row ends.now out.old out.new placed.old placed.new result }
@@ -82,5 +75,5 @@ pub fn renew(
     if can_stand(ends, wide(st.rules), out) {
         return renew_touched(w0, st, w1, w2, touched, ends, out, placed);
     }
-    Renewal::Foreign
+    Err(Refusal::BoardFull.at(1))
 }

@@ -80,9 +80,7 @@ fn spread_rules(
     requires most_rules_in_bounds { (most_rules ≤ length placed.now) × SomePlacing st w0.now w1.now touched fresh.now buf.now placed.now (length out.old) }
     ensures { SpreadsRules st w0.now w1.now touched fresh.now buf.now placed.now w2.old w2.new out.old out.new }
 {
-    let mut r = wide(st.rules);
-    while 0 < r {
-        r -= 1;
+    for r in (0..wide(st.rules)).rev() {
         put_rule(w0, st, w1, w2, touched, fresh, buf, placed, r, out);
     }
 }

@@ -26,12 +26,10 @@ pub fn touched_rules(w0: &[u64], st: Counts, w2: &[u64], row: u64) -> u64
 {
     let rules = wide(st.rules);
     let mut touched: u64 = 0;
-    let mut r: usize = 0;
-    while r < rules {
+    for r in 0..rules {
         let root = wide(w0[memory::ROOTS + r]);
         let sees = has_bit(w2[root], row);
         touched = with_bit(touched, r as u64, sees);
-        r += 1;
     }
     touched
 }

@@ -17,8 +17,6 @@ use Rattle.board.proofs.Facts.{line_for}
 use Rattle.values.specs.Cells.{enc}
 use Rattle.values.proofs.Encoding.{size_law}
 use Rattle.tables.specs.declared.Counts.{Counts}
-use Rattle.tables.specs.declared.Step.{Step as CodeStep}
-use Rattle.tables.specs.declared.Step.TheVariants as code
 use Rattle.tables.specs.Layout.{slot_key, Holds, Fine, moved_refused}
 use Rattle.tables.proofs.Tables.{kept_refl, kept_then}
 use Rattle.tables.proofs.Steps.{over_limits}
@@ -27,18 +25,21 @@ use Rattle.slots.proofs.LineLaws.{kept_behind, holds_behind}
 use Rattle.replay.specs.Values.{IsValue}
 use Rattle.replay.specs.Slots.{CellsTook, most_keys}
 use Rattle.replay.proofs.TakingLaws.{stop_next}
+use Rattle.std.specs.Prelude.{Result, Err}
+use Rattle.memory.specs.declared.refusals.Refusal.{Refusal}
+use Rattle.memory.specs.declared.refusals.Refusal.TheVariants.{OverMeasure}
 
 -- ---- a slot's cells
 
 module _ {cells : List ℕ} {key : ℕ} {st : Counts} (w0 w1 : List ℕ) {b : Bool} (value : IsValue cells b) where
-  pub no_cells : b ≡ false → CellsTook cells key st (code.Refused 4) w0 w1 w0
+  pub no_cells : b ≡ false → CellsTook cells key st (Err OverMeasure) w0 w1 w0
   no_cells z = record {
     is = λ s x h m k l f w e. absurd (true≢false (sym (value.is x.value f w e) ∙ z));
     found = λ e. stop_next e;
     kept = kept_refl w0;
   }
 
-  pub no_room : (fine : Fine st) → 2048 - st.cells < length cells → CellsTook cells key st (code.Refused 4) w0 w1 w0
+  pub no_room : (fine : Fine st) → 2048 - st.cells < length cells → CellsTook cells key st (Err OverMeasure) w0 w1 w0
   unfolding within_limits
   no_room fine h = record {
     is = λ s x g m k l f w e. rw (over_limits s 1 (line_for x) (test_fails (within_limits s (line_for x)) (λ t. full s x g e t))) moved_refused;
@@ -77,7 +78,7 @@ module _ {cells : List ℕ} {key : ℕ} {st : Counts} (w0 w1 : List ℕ) {b : Bo
     lies : slice at (at + length cells) v0 ≡ cells
     lies = ap (drop at) up_to ∙ drop_at (take at w0) cells at (length-take-le at w0 (omega arith))
 
-    pub put_cells : {r : CodeStep} {u0 : List ℕ} → SlotTook st 1 (key / 64) (key % 64) (length cells) r v0 w1 u0 → CellsTook cells key st r w0 w1 u0
+    pub put_cells : {r : Result Counts Refusal} {u0 : List ℕ} → SlotTook st 1 (key / 64) (key % 64) (length cells) r v0 w1 u0 → CellsTook cells key st r w0 w1 u0
     unfolding slot_key
     put_cells took = record {
       is = λ s x h m k l f w e.

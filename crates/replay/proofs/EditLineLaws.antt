@@ -8,7 +8,7 @@ use native.Mathlib.Omega.{arith}
 use borrow.Author.Tests.{eq-eqb, eqb-true}
 use lib.ListN.{length, get_or, take, drop, length-drop, drop_of_length-le}
 use lib.Dec.{eqb}
-use Rattle.std.specs.Prelude.{if◌then◌else◌}
+use Rattle.std.specs.Prelude.{if◌then◌else◌, Result, Err}
 use Rattle.sheet.specs.Text.{Bytes, bytes, onto, split, lines_of, fields_of}
 use Rattle.sheet.specs.Lines.{is}
 use Rattle.board.specs.Edits.{Edit, edit_of, one_line, read_edit}
@@ -20,9 +20,9 @@ use Rattle.text.proofs.WordLaws.{is_value_line}
 use Rattle.tables.specs.declared.Counts.{Counts}
 use Rattle.tables.specs.Layout.{Kept}
 use Rattle.tables.proofs.Tables.{kept_refl}
-use Rattle.replay.specs.declared.Replayed.{Replayed}
-use Rattle.replay.specs.declared.Replayed.TheVariants as code
 use Rattle.replay.specs.Replays.{ReplayedAs, refused, EditTook, Replays}
+use Rattle.memory.specs.declared.refusals.Refusal.{Refusal}
+use Rattle.memory.specs.declared.refusals.Refusal.TheVariants.{BadLine}
 
 -- ---- the line, and its line feed
 
@@ -64,7 +64,7 @@ more l (b ∷ y) h = by (eqb b 10) (split 10 y) (second l y)
     by false (p ∷ ps) h = refl
 
 pub not_value : {line : Bytes} {words : List ℕ} {st : Counts} {w0 : List ℕ} {kind : ℕ} → kind ≡ byte_kind (only_byte (get_or (fields_of line) 0 [])) → (kind ≡ 4 → ⊥)
-    → (w1 : List ℕ) → EditTook line words st (code.Refused 3) w0 w1 w0
+    → (w1 : List ℕ) → EditTook line words st (Err BadLine) w0 w1 w0
 unfolding edit_on
 not_value {line} {words} {st} {w0} e n w1 = record {
   is = λ s ts a. refused (λ b l room. ap (edit_on room s b) (no_edit (fields_of line) (λ h. n (e ∙ value_kind (get_or (fields_of line) 0 []) h))));
@@ -72,19 +72,19 @@ not_value {line} {words} {st} {w0} e n w1 = record {
 }
 
 module _ {line : Bytes} {words : List ℕ} {st : Counts} {w0 w1 : List ℕ} {e : ℕ} (part : PartEnd 10 line e) where
-  unread : {v0 : List ℕ} → Kept w0 v0 → read_edit line ≡ none → Replays line words st w0 w1 v0 (code.Refused 3)
+  unread : {v0 : List ℕ} → Kept w0 v0 → read_edit line ≡ none → Replays line words st w0 w1 v0 (Err BadLine)
   unfolding edit_on
   unread k h = record { is = λ s ts a. refused (λ b l room. ap (edit_on room s b) h); kept = k }
 
-  pub no_feed : length line ≤ e → Replays line words st w0 w1 w0 (code.Refused 3)
+  pub no_feed : length line ≤ e → Replays line words st w0 w1 w0 (Err BadLine)
   unfolding read_edit one_line lines_of
   no_feed h = unread (kept_refl w0) (rw (only_part part h))
 
-  pub two_lines : e + 1 < length line → Replays line words st w0 w1 w0 (code.Refused 3)
+  pub two_lines : e + 1 < length line → Replays line words st w0 w1 w0 (Err BadLine)
   unfolding read_edit lines_of
   two_lines h = unread (kept_refl w0) (ap one_line (first_part part (omega arith)) ∙ more (take e line) (drop (e + 1) line) (omega (arith, length-drop (e + 1) line)))
 
-  pub one_line_lem : {v0 : List ℕ} {r : Replayed} → e < length line → length line ≤ e + 1 → EditTook (take e line) words st r w0 w1 v0 → Replays line words st w0 w1 v0 r
+  pub one_line_lem : {v0 : List ℕ} {r : Result (Counts × ℕ) Refusal} → e < length line → length line ≤ e + 1 → EditTook (take e line) words st r w0 w1 v0 → Replays line words st w0 w1 v0 r
   unfolding read_edit one_line lines_of split
   one_line_lem {v0} {r} h l t = record {
     is = λ s ts a. subst (λ x. ReplayedAs x words s ts v0 w1 r) (sym (ap one_line (first_part part h ∙ ap (λ (y : Bytes). take e line ∷ split 10 y) (drop_of_length-le line l)))) (t.is s ts a);

@@ -10,7 +10,6 @@ use lib.Dec.{T, leb, leb→le}
 use Rattle.laws.proofs.Tests.{and_l, test_true}
 use Rattle.ocl.specs.Types.{Ty}
 use Rattle.sheet.specs.Text.{Bytes, fields_of}
-use Rattle.sheet.specs.Lines.{is}
 use Rattle.sheet.specs.Sheet.{Slot, Sheet}
 use Rattle.sheet.specs.Limits.{total_size}
 use Rattle.sheet.specs.Reading.{Step, taken, refuse}
@@ -22,19 +21,18 @@ use Rattle.board.specs.Laws.{take_slots}
 use Rattle.board.proofs.Judged.{Passed}
 use Rattle.board.proofs.AsLines.{not_taken, lined, lined_edited}
 use Rattle.tables.specs.declared.Counts.{Counts}
-use Rattle.tables.specs.declared.Step.{Step as CodeStep}
-use Rattle.tables.specs.declared.Step.TheVariants as step-code
 use Rattle.tables.specs.Layout.{Holds, Fine}
 use Rattle.tables.proofs.Tables.{kept_then}
 use Rattle.rules.specs.Accepted.{Accepted}
 use Rattle.board_words.specs.Layout.{BoardLies}
-use Rattle.replay.specs.declared.judging.Judged.TheVariants as judged-code
-use Rattle.replay.specs.declared.Replayed.TheVariants as code
 use Rattle.replay.specs.Slots.{Lying}
 use Rattle.replay.specs.Judging.{empty_counts, judged_edit, JudgedAs, judged_stop, judged_key, Judges}
 use Rattle.replay.specs.Replays.{last_counts, Parted, Spelled, Comes, comes_next, comes_stop, Replaying, ReplayedAs, refused, replayed, EditTook}
 use Rattle.replay.proofs.ValuedLaws.{empty_fine, empty_rows, accepted_with}
 use Rattle.replay.proofs.FoundLaws.{slots_at, parted_same, parted}
+use Rattle.std.specs.Prelude.{Result, Ok, Err}
+use Rattle.memory.specs.declared.refusals.Refusal.{Refusal}
+use Rattle.memory.specs.declared.refusals.Refusal.TheVariants.{BoardFull}
 
 -- ---- an edit that is refused by itself
 
@@ -48,10 +46,10 @@ on_refused s b room none e = ap (λ (n : ℕ). refusal_at n 1) (ap step_number e
 on_refused s b room (some x) e = rw e
 
 module _ {line : Bytes} {words : List ℕ} {st : Counts} {w0 w1 v0 : List ℕ} where
-  pub edit_refused : {n : ℕ} → Judges line st (judged-code.Refused n) w0 w1 v0 → EditTook line words st (code.Refused n) w0 w1 v0
+  pub edit_refused : {n : Refusal} → Judges line st (Err n) w0 w1 v0 → EditTook line words st (Err n) w0 w1 v0
   edit_refused {n} h = record { is = λ s ts a. by s ts (h.is s a.lies.holds); kept = h.kept }
     where
-      by : (s : Sheet) (ts : List Ty) → JudgedAs line st s v0 w1 (judged-code.Refused n) → ReplayedAs (edit_of (fields_of line)) words s ts v0 w1 (code.Refused n)
+      by : (s : Sheet) (ts : List Ty) → JudgedAs line st s v0 w1 (Err n) → ReplayedAs (edit_of (fields_of line)) words s ts v0 w1 (Err n)
       by s ts (judged_stop e) = refused (λ b l room. on_refused s b room (edit_of (fields_of line)) e)
 
 -- ---- an edit that is made
@@ -65,15 +63,15 @@ pub record Keyed (line : Bytes) (st : Counts) (s : Sheet) (v0 w1 : List ℕ) (ke
   pub holds : Holds (empty_counts st) v0 w1 (with_slots s 3 [])
   pub at : key ≡ edit.object * 64 + edit.row
 
-pub keyed : {line : Bytes} {st : Counts} {s : Sheet} {v0 w1 : List ℕ} {key : ℕ} → JudgedAs line st s v0 w1 (judged-code.Key key) → Keyed line st s v0 w1 key
+pub keyed : {line : Bytes} {st : Counts} {s : Sheet} {v0 w1 : List ℕ} {key : ℕ} → JudgedAs line st s v0 w1 (Ok key) → Keyed line st s v0 w1 key
 keyed (judged_key e t i j l h) = record { edit = e; sheet = t; is = i; judges = j; row = l; holds = h; at = refl }
 
-pub lying_emptied : {line : Bytes} {st : Counts} {w0 v0 : List ℕ} {key : ℕ} → Lying st w0 → ((w1 : List ℕ) → Judges line st (judged-code.Key key) w0 w1 v0) → Lying (empty_counts st) v0
+pub lying_emptied : {line : Bytes} {st : Counts} {w0 v0 : List ℕ} {key : ℕ} → Lying st w0 → ((w1 : List ℕ) → Judges line st (Ok key) w0 w1 v0) → Lying (empty_counts st) v0
 lying_emptied y h =
     let k = keyed ((h y.w1).is y.sheet y.holds) in
     record { w1 = y.w1; sheet = with_slots y.sheet 3 []; holds = k.holds; small = empty_rows y.sheet; fine = empty_fine y.fine }
 
-pub spelled_judged : {line : Bytes} {st : Counts} {w0 v0 : List ℕ} {key : ℕ} → Lying st w0 → ((w1 : List ℕ) → Judges line st (judged-code.Key key) w0 w1 v0) → Spelled line
+pub spelled_judged : {line : Bytes} {st : Counts} {w0 v0 : List ℕ} {key : ℕ} → Lying st w0 → ((w1 : List ℕ) → Judges line st (Ok key) w0 w1 v0) → Spelled line
 spelled_judged y h = let k = keyed ((h y.w1).is y.sheet y.holds) in record { edit = k.edit; is = k.is }
 
 -- the board's slots with the edit made
@@ -102,7 +100,7 @@ on_room : (s : Sheet) (b : Board) (room : ℕ) (e : Edit) {t : Sheet} → judged
 unfolding edit_on on_judged
 on_room s b room e j h = rw (j, h)
 
-comes_stopped : {w0 w1 : List ℕ} {m : ℕ} {y : Step} {t : Sheet} → Comes w0 w1 (step-code.Refused m) y → y ≡ taken t → ⊥
+comes_stopped : {w0 w1 : List ℕ} {m : Refusal} {y : Step} {t : Sheet} → Comes w0 w1 (Err m) y → y ≡ taken t → ⊥
 comes_stopped comes_stop e = not_taken e
 
 record Came (v0 w1 : List ℕ) (su : Counts) (y : Step) : Type 0 where
@@ -111,17 +109,17 @@ record Came (v0 w1 : List ℕ) (su : Counts) (y : Step) : Type 0 where
   fine : Fine su
   holds : Holds su v0 w1 sheet
 
-came : {v0 w1 : List ℕ} {su : Counts} {y : Step} → Comes v0 w1 (step-code.Next su) y → Came v0 w1 su y
+came : {v0 w1 : List ℕ} {su : Counts} {y : Step} → Comes v0 w1 (Ok su) y → Came v0 w1 su y
 came (comes_next {s = t} f h) = record { sheet = t; is = refl; fine = f; holds = h }
 
-module _ {line : Bytes} {words : List ℕ} {st : Counts} {w0 v0 x0 : List ℕ} {key : ℕ} (judges : (w1 : List ℕ) → Judges line st (judged-code.Key key) w0 w1 v0) where
+module _ {line : Bytes} {words : List ℕ} {st : Counts} {w0 v0 x0 : List ℕ} {key : ℕ} (judges : (w1 : List ℕ) → Judges line st (Ok key) w0 w1 v0) where
   -- what the code came to, by the edit and the slots before and after it
-  went : {su : Counts} {r : CodeStep} → su ≡ empty_counts st → (w1 : List ℕ) → Replaying line key words su r v0 w1 x0 → (s : Sheet) (k : Keyed line st s v0 w1 key) (xs ys : List Slot)
+  went : {su : Counts} {r : Result Counts Refusal} → su ≡ empty_counts st → (w1 : List ℕ) → Replaying line key words su r v0 w1 x0 → (s : Sheet) (k : Keyed line st s v0 w1 key) (xs ys : List Slot)
       → Parted words key xs ys → Comes x0 w1 r (take_slots (with_slots s 3 []) (xs ++ slot_for k.edit.object k.edit.row k.edit.value ++ ys))
   went e w1 h s k xs ys p = h.is (with_slots s 3 []) k.edit xs ys (rw e k.holds) (empty_rows s) k.is p
 
-  pub edit_full : {su : Counts} {m : ℕ} {r : CodeStep} → su ≡ empty_counts st → r ≡ step-code.Refused m → ((w1 : List ℕ) → Replaying line key words su r v0 w1 x0)
-      → (w1 : List ℕ) → EditTook line words st (code.Refused 21) w0 w1 x0
+  pub edit_full : {su : Counts} {m : Refusal} {r : Result Counts Refusal} → su ≡ empty_counts st → r ≡ Err m → ((w1 : List ℕ) → Replaying line key words su r v0 w1 x0)
+      → (w1 : List ℕ) → EditTook line words st (Err BoardFull) w0 w1 x0
   unfolding edited
   edit_full {su} {m} {r} e i h w1 = record { is = λ s ts a. by s ts (keyed ((judges w1).is s a.lies.holds)); kept = kept_then (judges w1).kept (h w1).kept }
     where
@@ -132,15 +130,15 @@ module _ {line : Bytes} {words : List ℕ} {st : Counts} {w0 v0 x0 : List ℕ} {
           (went e w1 (h w1) s k (slots_before b.slots k.edit.object k.edit.row) (slots_after b.slots k.edit.object k.edit.row) (rw k.at (board_parted words s b k.edit l k.row))) in
           absurd (comes_stopped c (lined_edited s k.edit (lined s l.as_lines) (passed_taken k.judges) (subst T (sym q) tt)))
 
-      by : (s : Sheet) (ts : List Ty) → Keyed line st s v0 w1 key → ReplayedAs (edit_of (fields_of line)) words s ts x0 w1 (code.Refused 21)
+      by : (s : Sheet) (ts : List Ty) → Keyed line st s v0 w1 key → ReplayedAs (edit_of (fields_of line)) words s ts x0 w1 (Err BoardFull)
       by s ts k = refused (λ b l room. ap (edit_on room s b) k.is ∙ on_full s b room k.edit k.judges (full s k b l (has_room (edited b.slots k.edit)) refl))
 
-  pub edit_made : {su next : Counts} {r : CodeStep} {last : Counts} → su ≡ empty_counts st → r ≡ step-code.Next next → last ≡ last_counts next → ((w1 : List ℕ) → Replaying line key words su r v0 w1 x0)
-      → (w1 : List ℕ) → EditTook line words st (code.Is last (key % 64)) w0 w1 x0
+  pub edit_made : {su next : Counts} {r : Result Counts Refusal} {last : Counts} → su ≡ empty_counts st → r ≡ Ok next → last ≡ last_counts next → ((w1 : List ℕ) → Replaying line key words su r v0 w1 x0)
+      → (w1 : List ℕ) → EditTook line words st (Ok (last, (key % 64))) w0 w1 x0
   unfolding edited
   edit_made {su} {next} {r} {last} e i n h w1 = record { is = λ s ts a. by s ts a (keyed ((judges w1).is s a.lies.holds)); kept = kept_then (judges w1).kept (h w1).kept }
     where
-      by : (s : Sheet) (ts : List Ty) → Accepted st w0 w1 s ts → Keyed line st s v0 w1 key → ReplayedAs (edit_of (fields_of line)) words s ts x0 w1 (code.Is last (key % 64))
+      by : (s : Sheet) (ts : List Ty) → Accepted st w0 w1 s ts → Keyed line st s v0 w1 key → ReplayedAs (edit_of (fields_of line)) words s ts x0 w1 (Ok (last, (key % 64)))
       by s ts a k =
           let x = (h w1).found i in
           let zs = x.0 ++ slot_for k.edit.object k.edit.row k.edit.value ++ x.1.0 in

@@ -7,7 +7,6 @@ use lib.ListN.{get_or}
 use Rattle.laws.proofs.Lists.{each_imp}
 use Rattle.ocl.specs.Types.{Ty}
 use Rattle.sheet.specs.Text.{Bytes}
-use Rattle.sheet.specs.Lines.{is}
 use Rattle.sheet.specs.Sheet.{Slot, Sheet}
 use Rattle.sheet.specs.Reading.{Step, taken, refuse, step_line}
 use Rattle.board.specs.Edits.{slot_for}
@@ -15,8 +14,6 @@ use Rattle.board.specs.Laws.{on_taken, take_slots}
 use Rattle.board.proofs.Facts.{line_for}
 use Rattle.board.proofs.AsLines.{taken_same, not_taken}
 use Rattle.tables.specs.declared.Counts.{Counts}
-use Rattle.tables.specs.declared.Step.{Step as CodeStep}
-use Rattle.tables.specs.declared.Step.TheVariants as step-code
 use Rattle.tables.specs.Layout.{Holds, Moved, moved_next, moved_refused}
 use Rattle.tables.proofs.Tables.{kept_refl, kept_then}
 use Rattle.slots.specs.Slots.{SmallRows}
@@ -26,6 +23,9 @@ use Rattle.replay.specs.Judging.{OwnTook}
 use Rattle.replay.specs.Replays.{Parted, Spelled, Comes, comes_next, comes_stop, Replaying}
 use Rattle.replay.proofs.TakingLaws.{stop_next, rows_more, Onward, onward, stopped}
 use Rattle.replay.proofs.FoundLaws.{first_same}
+use Rattle.std.specs.Prelude.{Result, Ok, Err}
+use Rattle.memory.specs.declared.refusals.Refusal.{Refusal}
+use Rattle.memory.specs.declared.refusals.Refusal.TheVariants.{OverMeasure}
 
 -- ---- slots one after the other
 
@@ -56,12 +56,12 @@ then_refused : (s : Sheet) (xs ys : List Slot) {n : ℕ} → take_slots s xs ≡
 unfolding on_taken
 then_refused s xs ys e = take_append xs ys s ∙ ap (λ y. on_taken y (λ t. take_slots t ys)) e
 
-comes : {w0 w1 : List ℕ} {r : CodeStep} {y : Step} → Moved w0 w1 r y → Comes w0 w1 r y
+comes : {w0 w1 : List ℕ} {r : Result Counts Refusal} {y : Step} → Moved w0 w1 r y → Comes w0 w1 r y
 comes (moved_next f h) = comes_next f h
 comes moved_refused = comes_stop
 
-comes_refused : {w0 w1 : List ℕ} {m n : ℕ} {y : Step} → y ≡ refuse n → Comes w0 w1 (step-code.Refused m) y
-comes_refused e = rw e comes_stop
+comes_refused : {w0 w1 : List ℕ} {e : Refusal} {n : ℕ} {y : Step} → y ≡ refuse n → Comes w0 w1 (Err e) y
+comes_refused q = rw q comes_stop
 
 -- ---- a sheet lies there
 
@@ -75,15 +75,15 @@ lying_accepted {w1 = w1} {s} a = record {
   fine = a.lies.fine;
 }
 
-pub lying_slots : {words : List ℕ} {n from to : ℕ} {st su : Counts} {w0 v0 : List ℕ} {r : CodeStep} → Lying st w0 → ((w1 : List ℕ) → SlotsReplayed words n from to st r w0 w1 v0)
-    → r ≡ step-code.Next su → Lying su v0
+pub lying_slots : {words : List ℕ} {n from to : ℕ} {st su : Counts} {w0 v0 : List ℕ} {r : Result Counts Refusal} → Lying st w0 → ((w1 : List ℕ) → SlotsReplayed words n from to st r w0 w1 v0)
+    → r ≡ Ok su → Lying su v0
 lying_slots {st = st} {su} {w0} {v0} y took e =
     let x = (took y.w1).found e in
     let p = onward (subst (λ c. Moved v0 y.w1 c (take_slots y.sheet x.0)) e ((took y.w1).is y.sheet x.0 y.holds y.small x.1)) in
     record { w1 = y.w1; sheet = p.sheet; holds = p.holds; small = rows_taken x.0 y.sheet p.sheet p.is y.small; fine = p.fine }
 
-pub lying_own : {line : Bytes} {st su : Counts} {w0 v0 : List ℕ} {r : CodeStep} → Lying st w0 → Spelled line → ((w1 : List ℕ) → OwnTook line st r w0 w1 v0)
-    → r ≡ step-code.Next su → Lying su v0
+pub lying_own : {line : Bytes} {st su : Counts} {w0 v0 : List ℕ} {r : Result Counts Refusal} → Lying st w0 → Spelled line → ((w1 : List ℕ) → OwnTook line st r w0 w1 v0)
+    → r ≡ Ok su → Lying su v0
 lying_own {st = st} {su} {w0} {v0} y l took e =
     let own = slot_for l.edit.object l.edit.row l.edit.value in
     let p = onward (subst (λ c. Moved v0 y.w1 c (take_slots y.sheet own)) e ((took y.w1).is y.sheet l.edit y.holds y.small l.is)) in
@@ -91,7 +91,7 @@ lying_own {st = st} {su} {w0} {v0} y l took e =
 
 -- ---- `replay`
 
-pub replay_many : {line : Bytes} {key : ℕ} {words : List ℕ} {st : Counts} {w0 : List ℕ} {n : ℕ} → n ≡ get_or words 0 0 → 1024 < n → (w1 : List ℕ) → Replaying line key words st (step-code.Refused 4) w0 w1 w0
+pub replay_many : {line : Bytes} {key : ℕ} {words : List ℕ} {st : Counts} {w0 : List ℕ} {n : ℕ} → n ≡ get_or words 0 0 → 1024 < n → (w1 : List ℕ) → Replaying line key words st (Err OverMeasure) w0 w1 w0
 replay_many {w0 = w0} e h w1 = record { is = λ s x xs ys g m q p. absurd (let f = p.few in omega arith); found = λ q. stop_next q; kept = kept_refl w0 }
 
 same_place : {words : List ℕ} {key n p : ℕ} {xs ys : List Slot} → n ≡ get_or words 0 0 → FirstFrom words n key p → Parted words key xs ys → SlotsAt words n p 0 xs
@@ -103,8 +103,8 @@ same_after {words} {key} {n} {p} {q} {xs} {ys} count first e h =
     rw (e, count) (subst (λ i. SlotsAt words (get_or words 0 0) (get_or words 0 0) (after_in words (get_or words 0 0) i key) ys) (first_same h.first (rw (← count) first)) h.after)
 
 module _ {line : Bytes} {key : ℕ} {words : List ℕ} {st : Counts} {w0 : List ℕ} {n p : ℕ} (count : n ≡ get_or words 0 0) (few : n ≤ 1024) (first : FirstFrom words n key p) where
-  module _ {u0 : List ℕ} {r1 : CodeStep} (took1 : (w1 : List ℕ) → SlotsReplayed words n 0 p st r1 w0 w1 u0) where
-    pub replay_first : {k : ℕ} → r1 ≡ step-code.Refused k → (w1 : List ℕ) → Replaying line key words st (step-code.Refused 4) w0 w1 u0
+  module _ {u0 : List ℕ} {r1 : Result Counts Refusal} (took1 : (w1 : List ℕ) → SlotsReplayed words n 0 p st r1 w0 w1 u0) where
+    pub replay_first : {k : Refusal} → r1 ≡ Err k → (w1 : List ℕ) → Replaying line key words st (Err k) w0 w1 u0
     replay_first {k} e w1 = record {
       is = λ s x xs ys g m q h.
           let z = stopped (subst (λ c. Moved u0 w1 c (take_slots s xs)) e ((took1 w1).is s xs g m (same_place count first h))) in
@@ -113,11 +113,11 @@ module _ {line : Bytes} {key : ℕ} {words : List ℕ} {st : Counts} {w0 : List 
       kept = (took1 w1).kept;
     }
 
-    module _ {a : Counts} (next1 : r1 ≡ step-code.Next a) {v0 : List ℕ} {r2 : CodeStep} (took2 : (w1 : List ℕ) → OwnTook line a r2 u0 w1 v0) where
+    module _ {a : Counts} (next1 : r1 ≡ Ok a) {v0 : List ℕ} {r2 : Result Counts Refusal} (took2 : (w1 : List ℕ) → OwnTook line a r2 u0 w1 v0) where
       one : (w1 : List ℕ) (s : Sheet) (xs : List Slot) → Holds st w0 w1 s → SmallRows s → SlotsAt words n p 0 xs → Onward u0 w1 a (take_slots s xs)
       one w1 s xs g m h = onward (subst (λ c. Moved u0 w1 c (take_slots s xs)) next1 ((took1 w1).is s xs g m h))
 
-      pub replay_own : {k : ℕ} → r2 ≡ step-code.Refused k → (w1 : List ℕ) → Replaying line key words st (step-code.Refused 4) w0 w1 v0
+      pub replay_own : {k : Refusal} → r2 ≡ Err k → (w1 : List ℕ) → Replaying line key words st (Err k) w0 w1 v0
       replay_own {k} e w1 = record {
         is = λ s x xs ys g m q h.
             let y = one w1 s xs g m (same_place count first h) in
@@ -128,7 +128,7 @@ module _ {line : Bytes} {key : ℕ} {words : List ℕ} {st : Counts} {w0 : List 
         kept = kept_then (took1 w1).kept (took2 w1).kept;
       }
 
-      pub replay_last : {b : Counts} {q : ℕ} {x0 : List ℕ} {r : CodeStep} → r2 ≡ step-code.Next b → q ≡ after_in words n p key
+      pub replay_last : {b : Counts} {q : ℕ} {x0 : List ℕ} {r : Result Counts Refusal} → r2 ≡ Ok b → q ≡ after_in words n p key
           → ((w1 : List ℕ) → SlotsReplayed words n q n b r v0 w1 x0) → (w1 : List ℕ) → Replaying line key words st r w0 w1 x0
       replay_last {b} {q} {x0} {r} next2 after took3 w1 = record {
         is = λ s x xs ys g m i h.

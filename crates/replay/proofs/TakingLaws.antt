@@ -6,10 +6,12 @@ use Prim.Native.Nat.{ℕ, ◌+◌, ◌-◌, ◌/◌, ◌%◌, ◌<◌, ◌≤◌
 use native.Mathlib.Omega.{arith}
 use native.Mathlib.Decide.{dec_lt}
 use borrow.Author.Tests.{eq-eqb, ne_eqb, lt-ltb, le-ltb}
-use lib.ListN.{length, get_or, take, drop}
-use lib.Seq.{slice}
+use lib.ListN.{length, get_or, take, drop, length-take, length-drop}
+use lib.Seq.{slice, get_or-take, get_or-drop}
 use lib.Dec.{eqb}
-use Rattle.std.specs.Prelude.{if◌then◌else◌}
+use Rattle.std.specs.Prelude.{if◌then◌else◌, Option, Some, None, Result, Ok, Err}
+use Rattle.std.specs.List.{AllWithin, HoldsAt}
+use Rattle.std.specs.Option.{MatchOption, unwrap_or}
 use Rattle.laws.specs.Lists.{each_nil, each-cons}
 use Rattle.laws.proofs.Lists.{each_append}
 use Rattle.laws.proofs.Slices.{cut_part}
@@ -22,15 +24,16 @@ use Rattle.board.proofs.Facts.{line_for, met_taken}
 use Rattle.board.proofs.Judged.{Passed, met_of}
 use Rattle.board.proofs.AsLines.{taken_same}
 use Rattle.tables.specs.declared.Counts.{Counts}
-use Rattle.tables.specs.declared.Step.{Step as CodeStep}
-use Rattle.tables.specs.declared.Step.TheVariants as code
 use Rattle.tables.specs.Layout.{slot_key, Holds, Fine, Kept, Moved, moved_next, moved_refused}
 use Rattle.tables.proofs.Tables.{kept_refl, kept_then}
 use Rattle.slots.specs.Slots.{SmallRows}
 use Rattle.replay.specs.Slots.{Lying, end_in, SlotAt, SlotsAt, none_left, one_more, FirstFrom, after_in, CellsTook, SlotReplayed, SlotsReplayed, most_keys}
+use Rattle.memory.specs.Refusals.{number}
+use Rattle.memory.specs.declared.refusals.Refusal.{Refusal}
+use Rattle.memory.specs.declared.refusals.Refusal.TheVariants.{OverMeasure}
 
-pub stop_next : {A : Type 0} {n : ℕ} {su : Counts} → code.Refused n ≡ code.Next su → A
-stop_next e = absurd (let z : ◌≡◌ {A = ℕ} 0 1 = cc in omega arith)
+pub stop_next : {A : Type 0} {e : Refusal} {su : Counts} → Err e ≡ Ok su → A
+stop_next q = absurd (let z : ◌≡◌ {A = ℕ} 0 1 = cc in omega arith)
 
 -- ---- `end_of`, `slots_before` and `slot_after`
 
@@ -79,20 +82,20 @@ part_is words n j from to start end room up long =
     ∙ ap (λ (i : ℕ). slice (memory.cells + i) (memory.cells + to) words) start ∙ ap (λ (i : ℕ). slice (memory.cells + get_or words (memory.starts + j) 0) (memory.cells + i) words) end
 
 module _ (words : List ℕ) (n j : ℕ) {st : Counts} {w0 w1 : List ℕ} where
-  none_there : ((x : Slot) → SlotAt words n j x → ⊥) → SlotReplayed words n j st (code.Refused 4) w0 w1 w0
+  none_there : ((x : Slot) → SlotAt words n j x → ⊥) → SlotReplayed words n j st (Err OverMeasure) w0 w1 w0
   none_there h = record { is = λ s x g m a. absurd (h x a); found = λ e. stop_next e; kept = kept_refl w0 }
 
-  pub high_key : most_keys ≤ get_or words (memory.keys + j) 0 → SlotReplayed words n j st (code.Refused 4) w0 w1 w0
+  pub high_key : most_keys ≤ get_or words (memory.keys + j) 0 → SlotReplayed words n j st (Err OverMeasure) w0 w1 w0
   high_key h = none_there (λ x a. let k = a.key in let l = a.low in omega arith)
 
-  pub high_end : {to : ℕ} → to ≡ end_in words n j → 2048 < to → SlotReplayed words n j st (code.Refused 4) w0 w1 w0
+  pub high_end : {to : ℕ} → to ≡ end_in words n j → 2048 < to → SlotReplayed words n j st (Err OverMeasure) w0 w1 w0
   high_end e h = none_there (λ x a. let l = a.room in omega arith)
 
-  pub no_cell : {from to : ℕ} → from ≡ get_or words (memory.starts + j) 0 → to ≡ end_in words n j → to ≤ from → SlotReplayed words n j st (code.Refused 4) w0 w1 w0
+  pub no_cell : {from to : ℕ} → from ≡ get_or words (memory.starts + j) 0 → to ≡ end_in words n j → to ≤ from → SlotReplayed words n j st (Err OverMeasure) w0 w1 w0
   no_cell f e h = none_there (λ x a. let l = a.up in omega arith)
 
   module _ {from to : ℕ} (start : from ≡ get_or words (memory.starts + j) 0) (end : to ≡ end_in words n j) (low : get_or words (memory.keys + j) 0 < most_keys) (room : to ≤ 2048) (up : from < to) (long : 8192 ≤ length words) where
-    pub slot_took : {r : CodeStep} {v0 : List ℕ} → CellsTook (take (memory.cells + to - (memory.cells + from)) (drop (memory.cells + from) words)) (get_or words (memory.keys + j) 0) st r w0 w1 v0 → SlotReplayed words n j st r w0 w1 v0
+    pub slot_took : {r : Result Counts Refusal} {v0 : List ℕ} → CellsTook (take (memory.cells + to - (memory.cells + from)) (drop (memory.cells + from) words)) (get_or words (memory.keys + j) 0) st r w0 w1 v0 → SlotReplayed words n j st r w0 w1 v0
     unfolding slot_key
     slot_took took = record {
       is = λ s x h m a. took.is s x h m a.key a.row a.fits a.within (part_is words n j from to start end room up long ∙ a.cells);
@@ -122,10 +125,10 @@ pub record Onward (v0 w1 : List ℕ) (st : Counts) (y : Step) : Type 0 where
   pub fine : Fine st
   pub holds : Holds st v0 w1 sheet
 
-pub onward : {v0 w1 : List ℕ} {st : Counts} {y : Step} → Moved v0 w1 (code.Next st) y → Onward v0 w1 st y
+pub onward : {v0 w1 : List ℕ} {st : Counts} {y : Step} → Moved v0 w1 (Ok st) y → Onward v0 w1 st y
 onward (moved_next {s = t} f g) = record { sheet = t; is = refl; fine = f; holds = g }
 
-pub stopped : {v0 w1 : List ℕ} {n : ℕ} {y : Step} → Moved v0 w1 (code.Refused n) y → y ≡ refuse n
+pub stopped : {v0 w1 : List ℕ} {e : Refusal} {y : Step} → Moved v0 w1 (Err e) y → y ≡ refuse (number e)
 stopped moved_refused = refl
 
 -- ---- the slots from one number to another
@@ -171,7 +174,7 @@ head_of l (none_left e) = absurd (omega arith)
 head_of l (one_more {x = x} {xs} k a h) = record { first = x; rest = xs; are = refl; here = a; at = h }
 
 module _ {words : List ℕ} {n from to : ℕ} {st : Counts} {u0 : List ℕ} {su : Counts} {j : ℕ} {w0 : List ℕ} (t : Taking words n from to st u0 su j w0) where
-  pub taking_end : to ≤ j → (w1 : List ℕ) → SlotsReplayed words n from to st (code.Next su) u0 w1 w0
+  pub taking_end : to ≤ j → (w1 : List ℕ) → SlotsReplayed words n from to st (Ok su) u0 w1 w0
   unfolding take_slots
   taking_end h w1 = record {
     is = λ s xs g m a. by s xs (t.going w1 s xs g m a);
@@ -183,11 +186,11 @@ module _ {words : List ℕ} {n from to : ℕ} {st : Counts} {u0 : List ℕ} {su 
       none (none_left e) = refl
       none (one_more l a b) = absurd (omega arith)
 
-      by : (s : Sheet) (xs : List Slot) → Left words n to j su w0 w1 s xs → Moved w0 w1 (code.Next su) (take_slots s xs)
+      by : (s : Sheet) (xs : List Slot) → Left words n to j su w0 w1 s xs → Moved w0 w1 (Ok su) (take_slots s xs)
       by s xs x = rw (x.same ∙ ap (take_slots x.sheet) (none x.at)) (moved_next t.lying.fine x.holds)
 
-  module _ (more : j < to) {r : CodeStep} {v0 : List ℕ} (took : (w1 : List ℕ) → SlotReplayed words n j su r w0 w1 v0) where
-    pub taking_stop : {k : ℕ} → r ≡ code.Refused k → (w1 : List ℕ) → SlotsReplayed words n from to st (code.Refused k) u0 w1 v0
+  module _ (more : j < to) {r : Result Counts Refusal} {v0 : List ℕ} (took : (w1 : List ℕ) → SlotReplayed words n j su r w0 w1 v0) where
+    pub taking_stop : {k : Refusal} → r ≡ Err k → (w1 : List ℕ) → SlotsReplayed words n from to st (Err k) u0 w1 v0
     unfolding take_slots on_taken
     taking_stop {k} e w1 = record {
       is = λ s xs g m a. by s xs (t.going w1 s xs g m a);
@@ -195,13 +198,13 @@ module _ {words : List ℕ} {n from to : ℕ} {st : Counts} {u0 : List ℕ} {su 
       kept = kept_then t.kept (took w1).kept;
     }
       where
-        by : (s : Sheet) (xs : List Slot) → Left words n to j su w0 w1 s xs → Moved v0 w1 (code.Refused k) (take_slots s xs)
+        by : (s : Sheet) (xs : List Slot) → Left words n to j su w0 w1 s xs → Moved v0 w1 (Err k) (take_slots s xs)
         by s xs x =
             let h = head_of more x.at in
             let q = stopped (subst (λ c. Moved v0 w1 c (step_line x.sheet 1 (line_for h.first))) e ((took w1).is x.sheet h.first x.holds x.small h.here)) in
             rw (x.same ∙ ap (take_slots x.sheet) h.are ∙ ap (λ y. on_taken y (λ u. take_slots u h.rest)) q) moved_refused
 
-    module _ {next : Counts} (e : r ≡ code.Next next) where
+    module _ {next : Counts} (e : r ≡ Ok next) where
       step : (w1 : List ℕ) (u : Sheet) (x : Slot) → Holds su w0 w1 u → SmallRows u → SlotAt words n j x → Onward v0 w1 next (step_line u 1 (line_for x))
       step w1 u x g m a = onward (subst (λ c. Moved v0 w1 c (step_line u 1 (line_for x))) e ((took w1).is u x g m a))
 
@@ -234,15 +237,27 @@ module _ {words : List ℕ} {n from to : ℕ} {st : Counts} {u0 : List ℕ} {su 
 
 -- ---- what comes before a key
 
-pub first_none : {words : List ℕ} {n key : ℕ} {p : ℕ} → (p ≤ n) → ((j : ℕ) → j < p → get_or words (memory.keys + j) 0 < key) → n ≤ p → FirstFrom words n key p
-first_none l h e = record { low = l; below = h; at = λ q. absurd (omega arith) }
+-- the first of the n keys that is not below the key
+module _ (words : List ℕ) (n key : ℕ) (room : memory.keys + n ≤ length words) where
+  abbrev first_keys : List ℕ
+  first_keys = take (memory.keys + n - memory.keys) (drop memory.keys words)
 
-pub first_here : {words : List ℕ} {n key : ℕ} {p : ℕ} → p < n → ((j : ℕ) → j < p → get_or words (memory.keys + j) 0 < key) → key ≤ get_or words (memory.keys + p) 0 → FirstFrom words n key p
-first_here l h e = record { low = omega arith; below = h; at = λ q. e }
+  key_at : (j : ℕ) → j < n → get_or first_keys j 0 ≡ get_or words (memory.keys + j) 0
+  key_at j h = get_or-take (memory.keys + n - memory.keys) (drop memory.keys words) j 0 (omega arith) ∙ get_or-drop memory.keys words j 0
 
-pub below_more : (words : List ℕ) {key p : ℕ} → ((j : ℕ) → j < p → get_or words (memory.keys + j) 0 < key) → get_or words (memory.keys + p) 0 < key → (j : ℕ) → j < p + 1 → get_or words (memory.keys + j) 0 < key
-below_more words {key} {p} h l j k = by (dec_lt j p)
-  where
-    by : Dec (j < p) → get_or words (memory.keys + j) 0 < key
-    by (yes m) = h j m
-    by (no m) = let z : j ≡ p = omega arith in rw z l
+  keys_long : length first_keys ≡ n
+  keys_long = simp (length-take, length-drop) (omega arith)
+
+  pub first_is : (r : Option ℕ) {p : ℕ}
+      → MatchOption r (AllWithin (λ k. k < key) first_keys 0 (length first_keys)) (λ i. (i < length first_keys) × HoldsAt (λ k. key ≤ k) first_keys i × AllWithin (λ k. k < key) first_keys 0 i)
+      → p ≡ unwrap_or r n → FirstFrom words n key p
+  first_is None h e = rw e (record {
+    low = omega arith;
+    below = λ j l. omega (arith, key_at j l, h j 0 (omega arith) (omega (arith, keys_long)));
+    at = λ l. absurd (omega arith);
+  })
+  first_is (Some i) h e = rw e (record {
+    low = omega (arith, keys_long, h.0);
+    below = λ j l. omega (arith, key_at j (omega (arith, keys_long, h.0)), h.2 j 0 (omega arith) l);
+    at = λ l. omega (arith, key_at i l, h.1 0);
+  })

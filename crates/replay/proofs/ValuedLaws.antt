@@ -7,7 +7,6 @@ use native.Mathlib.Omega.{arith}
 use lib.ListN.{length}
 use Rattle.laws.specs.Lists.{each_nil, concat}
 use Rattle.ocl.specs.Types.{Ty}
-use Rattle.sheet.specs.Lines.{is}
 use Rattle.sheet.specs.Sheet.{Slot, Sheet}
 use Rattle.sheet.specs.Limits.{total_size}
 use Rattle.board.specs.Edits.{with_slots}

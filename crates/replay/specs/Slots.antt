@@ -1,5 +1,5 @@
 -- The slots that words hold, whatever the words are, and what the code promises that takes them as V lines.
-use Rattle.std.specs.Prelude.{◌≡◌, true, ◌&&◌, List, [], ◌∷◌, ℕ, ◌+◌, ◌*◌, ◌<◌, ◌≤◌, get_or, eqb, ltb}
+use Rattle.std.specs.Prelude.{◌≡◌, true, ◌&&◌, List, [], ◌∷◌, ℕ, ◌+◌, ◌*◌, ◌<◌, ◌≤◌, get_or, eqb, ltb, Result, Ok}
 use Rattle.std.proofs.Math.Seq.{slice}
 use Rattle.std.specs.Prelude.{if◌then◌else◌}
 use Rattle.memory.specs.Map as memory
@@ -11,11 +11,10 @@ use Rattle.sheet.specs.Reading.{step_line}
 use Rattle.board.specs.Laws.{take_slots}
 use Rattle.values.specs.Cells.{enc, Fits}
 use Rattle.tables.specs.declared.Counts.{Counts}
-use Rattle.tables.specs.declared.Step.{Step}
-use Rattle.tables.specs.declared.Step.TheVariants as code
 use Rattle.tables.specs.Layout.{slot_key, Holds, Fine, Kept, Moved}
 use Rattle.slots.specs.Slots.{SmallRows}
 use Rattle.replay.specs.Values.{Whole}
+use Rattle.memory.specs.declared.refusals.Refusal.{Refusal}
 
 -- a sheet lies in the words, to which V lines may be added
 pub record Lying (st : Counts) (w0 : List ℕ) : Type 0 where
@@ -60,21 +59,21 @@ unfoldable pub after_in : List ℕ → ℕ → ℕ → ℕ → ℕ
 after_in words n p key = if ltb p n && eqb (get_or words (memory.keys + p) 0) key then p + 1 else p
 
 -- the slot with this key and these cells
-pub record CellsTook (cells : List ℕ) (key : ℕ) (st : Counts) (r : Step) (w0 w1 v0 : List ℕ) : Type 0 where
+pub record CellsTook (cells : List ℕ) (key : ℕ) (st : Counts) (r : Result Counts Refusal) (w0 w1 v0 : List ℕ) : Type 0 where
   pub is : (s : Sheet) (x : Slot) → Holds st w0 w1 s → SmallRows s → key ≡ slot_key x → x.row < most_rows → Fits x.value → value_within x.value ≡ true
       → cells ≡ enc x.value → Moved v0 w1 r (step_line s 1 (value_line x.object x.row x.value))
-  pub found : {su : Counts} → r ≡ code.Next su → Whole cells
+  pub found : {su : Counts} → r ≡ Ok su → Whole cells
   pub kept : Kept w0 v0
 
 -- slot j of n
-pub record SlotReplayed (words : List ℕ) (n j : ℕ) (st : Counts) (r : Step) (w0 w1 v0 : List ℕ) : Type 0 where
+pub record SlotReplayed (words : List ℕ) (n j : ℕ) (st : Counts) (r : Result Counts Refusal) (w0 w1 v0 : List ℕ) : Type 0 where
   pub is : (s : Sheet) (x : Slot) → Holds st w0 w1 s → SmallRows s → SlotAt words n j x
       → Moved v0 w1 r (step_line s 1 (value_line x.object x.row x.value))
-  pub found : {su : Counts} → r ≡ code.Next su → (x : Slot) × SlotAt words n j x
+  pub found : {su : Counts} → r ≡ Ok su → (x : Slot) × SlotAt words n j x
   pub kept : Kept w0 v0
 
 -- the slots from one number to another
-pub record SlotsReplayed (words : List ℕ) (n from to : ℕ) (st : Counts) (r : Step) (w0 w1 v0 : List ℕ) : Type 0 where
+pub record SlotsReplayed (words : List ℕ) (n from to : ℕ) (st : Counts) (r : Result Counts Refusal) (w0 w1 v0 : List ℕ) : Type 0 where
   pub is : (s : Sheet) (xs : List Slot) → Holds st w0 w1 s → SmallRows s → SlotsAt words n to from xs → Moved v0 w1 r (take_slots s xs)
-  pub found : {su : Counts} → r ≡ code.Next su → (xs : List Slot) × SlotsAt words n to from xs
+  pub found : {su : Counts} → r ≡ Ok su → (xs : List Slot) × SlotsAt words n to from xs
   pub kept : Kept w0 v0

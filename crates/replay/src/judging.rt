@@ -9,30 +9,25 @@ ghost use Rattle.replay.specs.Slots.{Lying};
 ghost use Rattle.replay.specs.Judging.{empty_counts, clears_line, ClearingAs, Judges, OwnTook};
 
 use memory::lines;
+use memory::refusals::Refusal;
 use memory::words::wide;
 use slots::line::value_line;
 use slots::suits::object_suits;
-use tables::{Counts, Step};
-use text::numbers::{Num, number};
+use tables::Counts;
+use text::numbers::number;
 use text::parts::{Fields, field};
-
-// The key of the edited slot; or a refusal's number.
-#[derive(Clone, Copy)]
-pub enum Judged {
-    Key(u64),
-    Refused(u64),
-}
 
 // The counts of the sheet without its values, where V lines may come.
 pub fn emptied(st: Counts) -> Counts
     ensures { result ≡ empty_counts st }
 {
-    let mut r = st;
-    r.block = lines::VALUES;
-    r.slots = 0;
-    r.cells = 0;
-    r.open = lines::NOTHING_OPEN;
-    r
+    Counts {
+        block: lines::VALUES,
+        slots: 0,
+        cells: 0,
+        open: lines::NOTHING_OPEN,
+        ..st
+    }
 }
 
 // Whether the line has `-` for its value.
@@ -40,32 +35,19 @@ fn clears(line: &[u8], f: Fields) -> bool
     requires { Cut line.now f }
     ensures { result ≡ clears_line (fields_of line.now) }
 {
-    if f.count != 4 {
-        return false;
-    }
-    let last = field(line, f, 3);
-    if last.len() != 1 {
-        return false;
-    }
-    last[0] == b'-'
+    f.count == 4 && field(line, f, 3) == b"-".as_slice()
 }
 
 // Judges the clearing of row a for object o; both numbers are a million at most.
-fn judge_cleared(w0: &[u64], st: Counts, o: u64, a: u64) -> Judged
+fn judge_cleared(w0: &[u64], st: Counts, o: u64, a: u64) -> Result<u64, Refusal>
     requires { (least_words ≤ length w0.now) × Fine st }
     ensures { (w1 : List ℕ) → ClearingAs st o a w0.now w1 result }
 {
-    if memory::MOST_OBJECTS <= o {
-        return Judged::Refused(4);
+    if memory::MOST_OBJECTS <= o || memory::MOST_ROWS <= a {
+        return Err(Refusal::OverMeasure);
     }
-    if memory::MOST_ROWS <= a {
-        return Judged::Refused(4);
-    }
-    if st.objects <= o {
-        return Judged::Refused(6);
-    }
-    if st.rows <= a {
-        return Judged::Refused(6);
+    if st.objects <= o || st.rows <= a {
+        return Err(Refusal::UnknownPart);
     }
     let classes = wide(st.classes);
     let objects_end = memory::OBJECTS + wide(st.objects);
@@ -76,38 +58,36 @@ fn judge_cleared(w0: &[u64], st: Counts, o: u64, a: u64) -> Judged
         o,
         w0[memory::OWNERS + i],
     ) {
-        return Judged::Refused(7);
+        return Err(Refusal::WrongThread);
     }
-    Judged::Key(o * memory::MOST_ROWS + a)
+    Ok(o * memory::MOST_ROWS + a)
 }
 
 // Judges a line that clears.
-fn judge_clearing(line: &[u8], f: Fields, w0: &[u64], st: Counts) -> Judged
+fn judge_clearing(line: &[u8], f: Fields, w0: &[u64], st: Counts) -> Result<u64, Refusal>
     requires { Cut line.now f × (is (get_or (fields_of line.now) 0 []) (bytes "V") ≡ true) × (clears_line (fields_of line.now) ≡ true) × (least_words ≤ length w0.now) × Fine st }
     ensures { (w1 : List ℕ) → Judges line.now st result w0.now w1 w0.now }
 {
-    let Num::Is(o) = number(field(line, f, 1)) else {
-        return Judged::Refused(3);
+    let Some(o) = number(field(line, f, 1)) else {
+        return Err(Refusal::BadLine);
     };
-    let Num::Is(a) = number(field(line, f, 2)) else {
-        return Judged::Refused(3);
+    let Some(a) = number(field(line, f, 2)) else {
+        return Err(Refusal::BadLine);
     };
     judge_cleared(w0, st, o, a)
 }
 
 // Any other line: its value is taken as the sheet's first one, and its key is read where it then lies.
-fn judge_value(line: &[u8], f: Fields, w0: &mut [u64], st: Counts) -> Judged
+fn judge_value(line: &[u8], f: Fields, w0: &mut [u64], st: Counts) -> Result<u64, Refusal>
     requires { Cut line.now f × (is (get_or (fields_of line.now) 0 []) (bytes "V") ≡ true) × (clears_line (fields_of line.now) ≡ false) × (least_words ≤ length w0.old) × Fine st }
     ensures { (w1 : List ℕ) → Judges line.now st result w0.old w1 w0.new }
 {
-    match value_line(line, f, w0, emptied(st)) {
-        Step::Refused(n) => Judged::Refused(n),
-        Step::Next(_) => Judged::Key(w0[memory::KEYS]),
-    }
+    value_line(line, f, w0, emptied(st))?;
+    Ok(w0[memory::KEYS])
 }
 
 // Judges the edit's line, whose first field is `V`.
-pub fn judge(line: &[u8], f: Fields, w0: &mut [u64], st: Counts) -> Judged
+pub fn judge(line: &[u8], f: Fields, w0: &mut [u64], st: Counts) -> Result<u64, Refusal>
     requires { Cut line.now f × (is (get_or (fields_of line.now) 0 []) (bytes "V") ≡ true) × (least_words ≤ length w0.old) × Fine st }
     ensures { (w1 : List ℕ) → Judges line.now st result w0.old w1 w0.new }
 {
@@ -118,12 +98,12 @@ pub fn judge(line: &[u8], f: Fields, w0: &mut [u64], st: Counts) -> Judged
 }
 
 // Takes the edit's own slot, if it has one: a line that clears has none.
-pub fn own_slot(line: &[u8], f: Fields, w0: &mut [u64], st: Counts) -> Step
+pub fn own_slot(line: &[u8], f: Fields, w0: &mut [u64], st: Counts) -> Result<Counts, Refusal>
     requires { Cut line.now f × (is (get_or (fields_of line.now) 0 []) (bytes "V") ≡ true) × (least_words ≤ length w0.old) × Lying st w0.old }
     ensures { (w1 : List ℕ) → OwnTook line.now st result w0.old w1 w0.new }
 {
     if clears(line, f) {
-        return Step::Next(st);
+        return Ok(st);
     }
     value_line(line, f, w0, st)
 }

@@ -12,11 +12,12 @@ ghost use Rattle.text.specs.Parts.{Cut};
 ghost use Rattle.replay.specs.Slots.{Lying};
 ghost use Rattle.replay.specs.Replays.{last_counts, Spelled, Replaying, EditTook, Replays};
 
-use crate::judging::{Judged, emptied, judge, own_slot};
+use crate::judging::{emptied, judge, own_slot};
 use crate::taking::{slot_after, slots_before, take_slots};
 use memory::lines;
+use memory::refusals::Refusal;
 use memory::words::wide;
-use tables::{Counts, Step};
+use tables::Counts;
 use text::parts::{Fields, cut, field, find};
 use text::words::{byte_kind, letter};
 
@@ -24,84 +25,90 @@ pub mod judging; // an edit's line by itself
 pub mod taking; // the slots in a board's words
 pub mod value; // cells that are a value's
 
-// The counts of the sheet with the edit made, and the edited row; or a refusal's number, whose place is 1.
-#[derive(Clone, Copy)]
-pub enum Replayed {
-    Is(Counts, u64),
-    Refused(u64),
-}
-
 // The counts of a sheet that has been read to its last block.
 fn finished(st: Counts) -> Counts
     ensures { result ≡ last_counts st }
 {
-    let mut r = st;
-    r.block = lines::RULES;
-    r
+    Counts {
+        block: lines::RULES,
+        ..st
+    }
 }
 
 // How many slots there may be.
 const MOST_SLOTS: usize = memory::MOST_VALUES as usize;
 
 // Takes the slots with the edit made: those before it, its own, and those after it.
-fn replay(own: &[u8], f: Fields, key: u64, words: &[u64], w0: &mut [u64], st: Counts) -> Step
+fn replay(
+    own: &[u8],
+    f: Fields,
+    key: u64,
+    words: &[u64],
+    w0: &mut [u64],
+    st: Counts,
+) -> Result<Counts, Refusal>
     requires { Cut own.now f × (is (get_or (fields_of own.now) 0 []) (bytes "V") ≡ true) × Spelled own.now × (least_board ≤ length words.now) × (least_words ≤ length w0.old) × Lying st w0.old }
     ensures { (w1 : List ℕ) → Replaying own.now key words.now st result w0.old w1 w0.new }
 {
     let n = wide(words[0]);
     if MOST_SLOTS < n {
-        return Step::Refused(4);
+        return Err(Refusal::OverMeasure);
     }
     let p = slots_before(words, n, key);
-    let Step::Next(a) = take_slots(words, n, 0, p, w0, st) else {
-        return Step::Refused(4);
-    };
-    let Step::Next(b) = own_slot(own, f, w0, a) else {
-        return Step::Refused(4);
-    };
+    let a = take_slots(words, n, 0, p, w0, st)?;
+    let b = own_slot(own, f, w0, a)?;
     take_slots(words, n, slot_after(words, n, p, key), n, w0, b)
 }
 
 // The edit's line, whose first field is `V`.
-fn edit_slots(own: &[u8], f: Fields, words: &[u64], w0: &mut [u64], st: Counts) -> Replayed
+fn edit_slots(
+    own: &[u8],
+    f: Fields,
+    words: &[u64],
+    w0: &mut [u64],
+    st: Counts,
+) -> Result<(Counts, u64), Refusal>
     requires { Cut own.now f × (is (get_or (fields_of own.now) 0 []) (bytes "V") ≡ true) × (least_board ≤ length words.now) × (least_words ≤ length w0.old) × Lying st w0.old }
     ensures { (w1 : List ℕ) → EditTook own.now words.now st result w0.old w1 w0.new }
 {
-    match judge(own, f, w0, st) {
-        Judged::Refused(n) => Replayed::Refused(n),
-        Judged::Key(key) => {
-            match replay(own, f, key, words, w0, emptied(st)) {
-                Step::Refused(_) => Replayed::Refused(21),
-                Step::Next(su) => Replayed::Is(finished(su), key % memory::MOST_ROWS),
-            }
-        }
+    let key = judge(own, f, w0, st)?;
+    match replay(own, f, key, words, w0, emptied(st)) {
+        Ok(su) => Ok((finished(su), key % memory::MOST_ROWS)),
+        Err(_) => Err(Refusal::BoardFull),
     }
 }
 
 // The edit's line, without its line feed.
-fn edit_line(own: &[u8], words: &[u64], w0: &mut [u64], st: Counts) -> Replayed
+fn edit_line(
+    own: &[u8],
+    words: &[u64],
+    w0: &mut [u64],
+    st: Counts,
+) -> Result<(Counts, u64), Refusal>
     requires { (least_board ≤ length words.now) × (least_words ≤ length w0.old) × Lying st w0.old }
     ensures { (w1 : List ℕ) → EditTook own.now words.now st result w0.old w1 w0.new }
 {
     let f = cut(own);
     if byte_kind(letter(field(own, f, 0))) != lines::VALUE_LINE {
-        return Replayed::Refused(3);
+        return Err(Refusal::BadLine);
     }
     edit_slots(own, f, words, w0, st)
 }
 
 // The edit of a board that lies in `words`, made on the accepted sheet in w0: one line with its line feed, and nothing behind it. Whatever
 // else the words hold, a sheet lies in w0 afterwards, or the edit is refused.
-pub fn replay_edit(line: &[u8], words: &[u64], w0: &mut [u64], st: Counts) -> Replayed
+pub fn replay_edit(
+    line: &[u8],
+    words: &[u64],
+    w0: &mut [u64],
+    st: Counts,
+) -> Result<(Counts, u64), Refusal>
     requires { (least_board ≤ length words.now) × (least_words ≤ length w0.old) × Lying st w0.old }
     ensures { (w1 : List ℕ) → Replays line.now words.now st w0.old w1 w0.new result }
 {
     let e = find(line, 10);
-    if line.len() <= e {
-        return Replayed::Refused(3);
-    }
-    if e + 1 < line.len() {
-        return Replayed::Refused(3);
+    if line.len() <= e || e + 1 < line.len() {
+        return Err(Refusal::BadLine);
     }
     edit_line(&line[..e], words, w0, st)
 }

@@ -5,9 +5,10 @@ ghost use Rattle.board.specs.Calls.{least_board};
 ghost use Rattle.replay.specs.Slots.{end_in, after_in, FirstFrom, Lying, CellsTook, SlotReplayed, SlotsReplayed, most_keys};
 
 use crate::value::is_value;
+use memory::refusals::Refusal;
 use memory::words::wide;
 use slots::line::put_slot;
-use tables::{Counts, Step};
+use tables::Counts;
 use values::cells::copy_cells;
 
 // Keys are below this.
@@ -27,16 +28,16 @@ fn end_of(words: &[u64], n: usize, j: usize) -> u64
 }
 
 // Takes the slot with this key and these cells.
-fn take_cells(cells: &[u64], key: u64, w0: &mut [u64], st: Counts) -> Step
+fn take_cells(cells: &[u64], key: u64, w0: &mut [u64], st: Counts) -> Result<Counts, Refusal>
     requires { (least_words ≤ length w0.old) × Lying st w0.old × (0 < length cells.now) × (key < most_keys) }
     ensures { (w1 : List ℕ) → CellsTook cells.now key st result w0.old w1 w0.new }
 {
     if !is_value(cells) {
-        return Step::Refused(4);
+        return Err(Refusal::OverMeasure);
     }
     let used = wide(st.cells);
     if MOST_CELLS - used < cells.len() {
-        return Step::Refused(4);
+        return Err(Refusal::OverMeasure);
     }
     copy_cells(w0, memory::CELLS + used, cells);
     put_slot(
@@ -49,21 +50,24 @@ fn take_cells(cells: &[u64], key: u64, w0: &mut [u64], st: Counts) -> Step
 }
 
 // Takes slot j of the n slots in the words.
-fn take_slot(words: &[u64], n: usize, j: usize, w0: &mut [u64], st: Counts) -> Step
+fn take_slot(
+    words: &[u64],
+    n: usize,
+    j: usize,
+    w0: &mut [u64],
+    st: Counts,
+) -> Result<Counts, Refusal>
     requires { (least_board ≤ length words.now) × (least_words ≤ length w0.old) × Lying st w0.old × (j < n) × (n ≤ most_values) }
     ensures { (w1 : List ℕ) → SlotReplayed words.now n j st result w0.old w1 w0.new }
 {
     let key = words[memory::KEYS + j];
     if MOST_KEYS <= key {
-        return Step::Refused(4);
+        return Err(Refusal::OverMeasure);
     }
     let from = wide(words[memory::STARTS + j]);
     let to = wide(end_of(words, n, j));
-    if MOST_CELLS < to {
-        return Step::Refused(4);
-    }
-    if to <= from {
-        return Step::Refused(4);
+    if MOST_CELLS < to || to <= from {
+        return Err(Refusal::OverMeasure);
     }
     let a = memory::CELLS + from;
     let e = memory::CELLS + to;
@@ -78,24 +82,15 @@ pub fn take_slots(
     to: usize,
     w0: &mut [u64],
     st: Counts,
-) -> Step
+) -> Result<Counts, Refusal>
     requires { (least_board ≤ length words.now) × (least_words ≤ length w0.old) × Lying st w0.old × (from ≤ to) × (to ≤ n) × (n ≤ most_values) }
     ensures { (w1 : List ℕ) → SlotsReplayed words.now n from to st result w0.old w1 w0.new }
 {
     let mut su = st;
-    let mut j = from;
-    while j < to {
-        match take_slot(words, n, j, w0, su) {
-            Step::Refused(k) => {
-                return Step::Refused(k);
-            }
-            Step::Next(next) => {
-                su = next;
-            }
-        }
-        j += 1;
+    for j in from..to {
+        su = take_slot(words, n, j, w0, su)?;
     }
-    Step::Next(su)
+    Ok(su)
 }
 
 // How many of the n slots come before the key.
@@ -103,14 +98,10 @@ pub fn slots_before(words: &[u64], n: usize, key: u64) -> usize
     requires { (least_board ≤ length words.now) × (n ≤ most_values) }
     ensures { FirstFrom words.now n key result }
 {
-    let mut p: usize = 0;
-    while p < n {
-        if key <= words[memory::KEYS + p] {
-            return p;
-        }
-        p += 1;
-    }
-    p
+    words[memory::KEYS..memory::KEYS + n]
+        .iter()
+        .position(|k| key <= *k)
+        .unwrap_or(n)
 }
 
 // The first of the n slots that comes after the key, where p come before it.
@@ -118,10 +109,8 @@ pub fn slot_after(words: &[u64], n: usize, p: usize, key: u64) -> usize
     requires { (least_board ≤ length words.now) × (p ≤ n) × (n ≤ most_values) }
     ensures { result ≡ after_in words.now n p key }
 {
-    if p < n {
-        if words[memory::KEYS + p] == key {
-            return p + 1;
-        }
+    if p < n && words[memory::KEYS + p] == key {
+        return p + 1;
     }
     p
 }

@@ -35,22 +35,17 @@ fn value_end(cells: &[u64], p: usize, deep: u64) -> usize
         }
         return 0;
     }
-    if TOP <= cell {
-        return 0;
-    }
-    if deep == 0 {
+    if TOP <= cell || deep == 0 {
         return 0;
     }
     let n = member_count(cell);
     let mut q = p + 1;
-    let mut i: usize = 0;
-    while i < n {
+    for _ in 0..n {
         let r = value_end(cells, q, deep - 1);
         if r == 0 {
             return 0;
         }
         q = r;
-        i += 1;
     }
     q
 }
@@ -63,8 +58,5 @@ pub fn is_value(cells: &[u64]) -> bool
         return false;
     }
     let end = value_end(cells, 0, DEEP);
-    if end == 0 {
-        return false;
-    }
-    end == cells.len()
+    end != 0 && end == cells.len()
 }

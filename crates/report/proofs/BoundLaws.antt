@@ -1,16 +1,18 @@
 -- Laws of how long a rule's lines, and those of all rules, can be. Assumes nothing.
 use mathlib.Core.Path.{◌≡◌, refl, sym, ap, ◌∙◌}
-use mathlib.Core.Bool.{Bool, true, false}
+use mathlib.Core.Bool.{Bool, true, false, cond}
 use mathlib.Core.List.{List}
-use Prim.Native.Nat.{ℕ, ◌+◌, ◌*◌, ◌≤◌, ◌<◌}
+use Prim.Native.Nat.{ℕ, zero, suc, ◌+◌, ◌*◌, ◌≤◌, ◌<◌}
 use native.Mathlib.Omega.{arith}
 use native.Mathlib.Nat.{mul-le-mul}
 use native.Mathlib.Numerals.{add-one}
 use lib.ListN.{length, get_or}
-use Rattle.std.specs.Prelude.{if◌then◌else◌}
+use Rattle.std.specs.Prelude.{count_by, filter}
+use Rattle.std.specs.List.{range_with_len}
+use Rattle.std.proofs.lemmas.List.Sums.{length-filter, sum_by-cons}
 use Rattle.memory.specs.Map as memory
-use Rattle.ocl.specs.Types.{Ty}
-use Rattle.ocl.specs.Model.{Model}
+use Rattle.ocl.specs.Types.{class, Ty}
+use Rattle.ocl.specs.Model.{Model, is_a}
 use Rattle.sheet.specs.Sheet.{Rule, Sheet, model_of}
 use Rattle.types.specs.declared.Base.{Base}
 use Rattle.types.specs.declared.FlatType.{FlatType}
@@ -52,33 +54,25 @@ pub report_width : {origins : Bool} {n : ℕ} (t : Ty) → origins ≡ false →
 unfolding line_width
 report_width t e q = rw (e, q)
 
--- ---- counting objects: n of the first o are of the class or below
+-- ---- counting objects
 
-pub record Counting (st : Counts) (w0 : List ℕ) (c n o : ℕ) : Type 0 where
-  pub is : (m : Model) → HoldsModel st w0 m → n ≡ objects_of m c o
-  pub few : n ≤ o
-  pub within : o ≤ st.objects
+pub is_a_told : {st : Counts} {w0 : List ℕ} {m : Model} (c : ℕ) → HoldsModel st w0 m → (o : ℕ) (b : Bool) → IsA st w0 o c b → b ≡ is_a m o (class c)
+is_a_told {m = m} c h o b a = a.is m h
 
-module _ {st : Counts} {w0 : List ℕ} {c : ℕ} where
-  pub count_none : Counting st w0 c 0 0
+module _ (m : Model) (c : ℕ) where
+  counted_from : (a n : ℕ) → objects_of m c (a + n) ≡ objects_of m c a + count_by (λ o. is_a m o (class c)) (range_with_len a n)
   unfolding objects_of
-  count_none = record { is = λ m h. refl; few = omega arith; within = omega arith }
+  counted_from a zero = let e : a + zero ≡ a = omega arith in rw e (omega arith)
+  counted_from a (suc n) =
+      let e : a + suc n ≡ a + 1 + n = omega arith in
+      rw (e, counted_from (a + 1) n, add-one a, sum_by-cons (λ o. cond (is_a m o (class c)) 1 0) a (range_with_len (suc a) n)) (omega arith)
 
-  pub count_next : {n n' o : ℕ} {b : Bool} → Counting st w0 c n o → IsA st w0 o c b → o < st.objects → n' ≡ n + (if b then 1 else 0)
-      → Counting st w0 c n' (o + 1)
+  pub objects_counted : (n : ℕ) → length (filter (λ o. is_a m o (class c)) (range_with_len 0 n)) ≡ objects_of m c n
   unfolding objects_of
-  count_next {n} {n'} {o} {b} k a h e = record {
-    is = λ m y. e ∙ rw (add-one o, k.is m y, a.is m y);
-    few = rw e (by b);
-    within = omega arith;
-  }
-    where
-      by : (b : Bool) → n + (if b then 1 else 0) ≤ o + 1
-      by true = omega (arith, k.few)
-      by false = omega (arith, k.few)
-
-  pub count_all : {n o : ℕ} → Counting st w0 c n o → o ≡ st.objects → st.objects ≤ 96 → CountsObjects st w0 c n
-  count_all {n} {o} k e h = record { is = λ m y. rw (← e) (k.is m y); few = omega (arith, k.few) }
+  objects_counted n =
+      let z : 0 + n ≡ n = omega arith in
+      let e : objects_of m c (0 + n) ≡ count_by (λ o. is_a m o (class c)) (range_with_len 0 n) = counted_from 0 n ∙ omega arith in
+      length-filter (λ o. is_a m o (class c)) (range_with_len 0 n) ∙ sym e ∙ ap (objects_of m c) z
 
 -- ---- a rule's lines
 

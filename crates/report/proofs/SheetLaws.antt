@@ -19,11 +19,10 @@ use Rattle.text.specs.Written.{put_bytes}
 use Rattle.tables.specs.declared.Counts.{Counts}
 use Rattle.tables.proofs.Tables.{kept_refl, kept_then}
 use Rattle.rules.specs.Accepted.{Accepted, TypesIn, KnownTyped}
-use Rattle.report.specs.declared.Reported.{Reported}
-use Rattle.report.specs.declared.Reported.TheVariants as reported
 use Rattle.report.specs.Bound.{rules_bound, BoundsAll}
 use Rattle.report.specs.Passes.{lines_from, all_lines, RoomForAll, AddsAll}
 use Rattle.report.specs.Reports.{lines_on, report_on, origins_on, written, too_long, Reports, Bounded, Measures, Fit, by_bound, by_length, no_fit, TellsFit}
+use Rattle.std.specs.Prelude.{Option as Optional, Some, None}
 
 module _ {origins : Bool} {st : Counts} {w0 w1 : List ℕ} where
   -- ---- the length
@@ -47,8 +46,8 @@ module _ {origins : Bool} {st : Counts} {w0 w1 : List ℕ} where
         by (yes h) = rw (lt-leb n room h) (no_fit h)
         by (no h) = rw (le-leb n room (omega arith)) (by_length (omega arith))
 
-  pub tells_bound : {bound room : ℕ} (u2 : List ℕ) → bound ≤ room → TellsFit origins st w0 w1 u2 u2 bound room true
-  tells_bound u2 h = record { is = λ s ts g. by_bound h; kept = kept_refl u2 }
+  pub tells_bound : {bound room : ℕ} (u2 : List ℕ) → bound ≤ room → TellsFit origins st w0 w1 u2 u2 bound room (leb bound room)
+  tells_bound {bound} {room} u2 h = record { is = λ s ts g. rw (le-leb bound room h) (by_bound h); kept = kept_refl u2 }
 
 -- ---- the lines
 
@@ -93,7 +92,7 @@ module _ {origins : Bool} {st : Counts} {w0 w1 u2 : List ℕ} where
         by (by_length l) = inr (omega arith)
 
     module _ {out : Bytes} {v2 : List ℕ} {r : Bool} (tells : TellsFit origins st w0 w1 u2 v2 bound (length out) r) where
-      pub all_short : r ≡ false → Reports (lines_on origins) st w0 w1 u2 v2 out out reported.Short
+      pub all_short : r ≡ false → Reports (lines_on origins) st w0 w1 u2 v2 out out None
       unfolding fitting
       all_short q = record {
         is = λ s ts g w. rw (verdict s ts g) too_long;
@@ -108,7 +107,7 @@ module _ {origins : Bool} {st : Counts} {w0 w1 u2 : List ℕ} where
           verdict s ts g = rw (lt-ltb (length out) (length (all_lines origins s)) (longer (rw q at (tells.is s ts g))))
 
       pub all_written : {x2 : List ℕ} {now : Bytes} {n : ℕ} → r ≡ true → AddsAll origins st w0 w1 v2 x2 true out now n
-          → Reports (lines_on origins) st w0 w1 u2 x2 out now (reported.Written n)
+          → Reports (lines_on origins) st w0 w1 u2 x2 out now (Some n)
       unfolding fitting
       all_written {x2} {now} {n} q a = record {
         is = λ s ts g w. rw (verdict s ts g w) (written (all_lines origins s) (size s ts g));
@@ -129,7 +128,7 @@ module _ {origins : Bool} {st : Counts} {w0 w1 u2 : List ℕ} where
 
 -- ---- the report, and where undefined came from
 
-module _ {st : Counts} {w0 w1 u2 v2 : List ℕ} {out now : Bytes} {r : Reported} where
+module _ {st : Counts} {w0 w1 u2 v2 : List ℕ} {out now : Bytes} {r : Optional ℕ} where
   pub as_report : Reports (lines_on false) st w0 w1 u2 v2 out now r → Reports report_on st w0 w1 u2 v2 out now r
   unfolding lines_from
   as_report a = record { is = a.is; output = a.output; kept = a.kept }

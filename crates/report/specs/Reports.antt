@@ -1,5 +1,5 @@
 -- What the lines of an accepted sheet in the words come to, the report's or those that say where undefined came from, and what the code answers.
-use Rattle.std.specs.Prelude.{◌≡◌, Bool, true, false, List, ℕ, ◌≤◌, ◌<◌, length}
+use Rattle.std.specs.Prelude.{◌≡◌, Bool, true, false, List, ℕ, ◌≤◌, ◌<◌, length, Option as Optional, Some, None}
 use Rattle.ocl.specs.Types.{Ty}
 use Rattle.sheet.specs.Text.{Bytes}
 use Rattle.sheet.specs.Sheet.{Sheet}
@@ -11,8 +11,6 @@ use Rattle.tables.specs.Layout.{Kept}
 use Rattle.rules.specs.Accepted.{Accepted, TypesIn}
 use Rattle.report.specs.Bound.{rules_bound}
 use Rattle.report.specs.Passes.{all_lines}
-use Rattle.report.specs.declared.Reported.{Reported}
-use Rattle.report.specs.declared.Reported.TheVariants as code
 
 -- the report of a sheet into so many bytes
 abbrev pub report_on : Sheet → ℕ → Verdict
@@ -27,12 +25,12 @@ abbrev pub lines_on : Bool → Sheet → ℕ → Verdict
 lines_on origins s room = fitting room (all_lines origins s)
 
 -- the code's answer for a verdict
-pub data SaysReport : Reported → Verdict → Type 0 where
-  written : (b : Bytes) {n : ℕ} → n ≡ length b → SaysReport (code.Written n) (answer b)
-  too_long : SaysReport code.Short (refusal 18)
+pub data SaysReport : Optional ℕ → Verdict → Type 0 where
+  written : (b : Bytes) {n : ℕ} → n ≡ length b → SaysReport (Some n) (answer b)
+  too_long : SaysReport None (refusal 18)
 
 -- f is what is asked of a sheet; w2 was `before` and is `after`; the output was `out` and is `now`
-pub record Reports (f : Sheet → ℕ → Verdict) (st : Counts) (w0 w1 before after : List ℕ) (out now : Bytes) (r : Reported) : Type 0 where
+pub record Reports (f : Sheet → ℕ → Verdict) (st : Counts) (w0 w1 before after : List ℕ) (out now : Bytes) (r : Optional ℕ) : Type 0 where
   pub is : (s : Sheet) (ts : List Ty) → Accepted st w0 w1 s ts → TypesIn before ts → SaysReport r (f s (length out))
   pub output : (s : Sheet) (ts : List Ty) → Accepted st w0 w1 s ts → TypesIn before ts → now ≡ output_after (f s (length out)) out
   pub kept : Kept before after

@@ -54,15 +54,7 @@ fn count_objects(w0: &[u64], st: Counts, c: u64) -> usize
     requires { Bounds st (length w0.now) }
     ensures { CountsObjects st w0.now c result }
 {
-    let mut n: usize = 0;
-    let mut o: u64 = 0;
-    while o < st.objects {
-        if is_a(w0, st, o, c) {
-            n += 1;
-        }
-        o += 1;
-    }
-    n
+    (0..st.objects).filter(|o| is_a(w0, st, *o, c)).count()
 }
 
 // How many bytes the lines of a rule with context c and type t can take.
@@ -79,10 +71,8 @@ pub fn all_bound(w0: &[u64], st: Counts, w2: &[u64], origins: bool) -> usize
     requires { Bounds st (length w0.now) × (least_words ≤ length w2.now) }
     ensures { BoundsAll origins st w0.now w2.now result }
 {
-    let rules = wide(st.rules);
-    let mut bound: usize = 0;
-    let mut r: usize = 0;
-    while r < rules {
+    let mut bound = 0;
+    for r in 0..wide(st.rules) {
         bound += lines_bound(
             w0,
             st,
@@ -90,7 +80,6 @@ pub fn all_bound(w0: &[u64], st: Counts, w2: &[u64], origins: bool) -> usize
             unpack(w2[memory::RULE_TYPES + r]),
             origins,
         );
-        r += 1;
     }
     bound
 }

@@ -18,13 +18,6 @@ use bound::all_bound;
 use passes::rule_lines;
 use tables::Counts;
 
-// How putting the lines ends: so many bytes are written; or they are longer than the output, and none is.
-#[derive(Clone, Copy)]
-pub enum Reported {
-    Written(usize),
-    Short,
-}
-
 // The length of the lines. They are formed in bytes of their own, so that the output stays as it is.
 fn measured(
     w0: &[u64],
@@ -56,10 +49,7 @@ fn lines_fit(
     requires bounded { Bounded origins st w0.now w1.now bound }
     ensures { TellsFit origins st w0.now w1.now w2.old w2.new bound room result }
 {
-    if bound <= room {
-        return true;
-    }
-    measured(w0, st, w1, w2, bound, origins) <= room
+    bound <= room || measured(w0, st, w1, w2, bound, origins) <= room
 }
 
 // Writes the lines of the accepted sheet in the words. An output that is too short is left as it is.
@@ -70,21 +60,27 @@ fn sheet_lines(
     w2: &mut [u64],
     out: &mut [u8],
     origins: bool,
-) -> Reported
+) -> Option<usize>
     requires least_words_in_bounds { (least_words ≤ length w0.now) × (least_words ≤ length w1.now) × (least_words ≤ length w2.old) }
     requires known_typed { KnownTyped st w0.now w1.now w2.old × (least_output ≤ length out.old) }
     ensures { Reports (lines_on origins) st w0.now w1.now w2.old w2.new out.old out.new result }
 {
     let bound = all_bound(w0, st, w2, origins);
     if lines_fit(w0, st, w1, w2, bound, out.len(), origins) {
-        Reported::Written(rule_lines(w0, st, w1, w2, out, true, origins))
+        Some(rule_lines(w0, st, w1, w2, out, true, origins))
     } else {
-        Reported::Short
+        None
     }
 }
 
 // Writes the report.
-pub fn report_sheet(w0: &[u64], st: Counts, w1: &[u64], w2: &mut [u64], out: &mut [u8]) -> Reported
+pub fn report_sheet(
+    w0: &[u64],
+    st: Counts,
+    w1: &[u64],
+    w2: &mut [u64],
+    out: &mut [u8],
+) -> Option<usize>
     requires least_words_in_bounds { (least_words ≤ length w0.now) × (least_words ≤ length w1.now) × (least_words ≤ length w2.old) }
     requires known_typed { KnownTyped st w0.now w1.now w2.old × (least_output ≤ length out.old) }
     ensures { Reports report_on st w0.now w1.now w2.old w2.new out.old out.new result }
@@ -93,7 +89,13 @@ pub fn report_sheet(w0: &[u64], st: Counts, w1: &[u64], w2: &mut [u64], out: &mu
 }
 
 // Writes where each undefined verdict came from.
-pub fn origins_sheet(w0: &[u64], st: Counts, w1: &[u64], w2: &mut [u64], out: &mut [u8]) -> Reported
+pub fn origins_sheet(
+    w0: &[u64],
+    st: Counts,
+    w1: &[u64],
+    w2: &mut [u64],
+    out: &mut [u8],
+) -> Option<usize>
     requires least_words_in_bounds { (least_words ≤ length w0.now) × (least_words ≤ length w1.now) × (least_words ≤ length w2.old) }
     requires known_typed { KnownTyped st w0.now w1.now w2.old × (least_output ≤ length out.old) }
     ensures { Reports origins_on st w0.now w1.now w2.old w2.new out.old out.new result }

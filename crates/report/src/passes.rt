@@ -79,10 +79,8 @@ pub fn object_lines(
     ensures { AddsLines (all_objects origins r) (all_bound origins) st w0.now w1.now r keep total w2.old w2.new out.old out.new result }
 {
     let mut sum = total;
-    let mut o: u64 = 0;
-    while o < st.objects {
+    for o in 0..st.objects {
         sum = object_line(w0, st, w1, w2, r, o, out, sum, keep, origins);
-        o += 1;
     }
     sum
 }
@@ -101,12 +99,9 @@ pub fn rule_lines(
     requires room_for_all { RoomForAll origins st w0.now w1.now keep (length out.old) }
     ensures { AddsAll origins st w0.now w1.now w2.old w2.new keep out.old out.new result }
 {
-    let rules = wide(st.rules);
-    let mut total: usize = 0;
-    let mut r: usize = 0;
-    while r < rules {
+    let mut total = 0;
+    for r in 0..wide(st.rules) {
         total = object_lines(w0, st, w1, w2, r, out, total, keep, origins);
-        r += 1;
     }
     total
 }

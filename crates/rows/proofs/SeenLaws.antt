@@ -156,10 +156,10 @@ module _ {w1 : List ℕ} {n k : ℕ} (e : k ≡ word w1 n 0) where
   pub before_own : k < 33 → SeesOwn w1 n 0
   before_own h = record { is = λ mark m. rw (not_own w1 n k e (λ q. omega arith) (λ q. omega arith) mark) no_bits }
 
-  pub behind_own : 34 < k → SeesOwn w1 n 0
+  pub behind_own : 35 ≤ k → SeesOwn w1 n 0
   behind_own h = record { is = λ mark m. rw (not_own w1 n k e (λ q. omega arith) (λ q. omega arith) mark) no_bits }
 
-  pub at_own : 33 ≤ k → k ≤ 34 → n < 768 → SeesOwn w1 n (1 * 2 ^ (get_or w1 (memory.marks + n) 0 % 64) % 18446744073709551616)
+  pub at_own : 33 ≤ k → k < 35 → n < 768 → SeesOwn w1 n (1 * 2 ^ (get_or w1 (memory.marks + n) 0 % 64) % 18446744073709551616)
   at_own l h z = record {
     is = λ mark m.
         let i = get_or w1 (memory.marks + n) 0 % 64 in

@@ -16,11 +16,11 @@ use Rattle.sheet.specs.Rows.{rows_lines}
 use Rattle.text.specs.Written.{Puts}
 use Rattle.tables.specs.declared.Counts.{Counts}
 use Rattle.rules.specs.Accepted.{Accepted}
-use Rattle.report.specs.declared.Reported.TheVariants as reported
 use Rattle.report.specs.Reports.{written, too_long}
 use Rattle.report.proofs.SheetLaws.{untouched, written_output}
 use Rattle.rows.specs.Seen.{SeesAll}
 use Rattle.rows.specs.Lines.{PutsLines, rows_on, TellsRows}
+use Rattle.std.specs.Prelude.{Some, None}
 
 -- what was put in front is what is read in front
 put_front : {w before after : Bytes} {n : ℕ} → Puts 0 w before after n → take n after ≡ w
@@ -45,14 +45,14 @@ module _ {st : Counts} {w0 w1 u2 v2 : List ℕ} {blank lines : Bytes} {end : ℕ
     unfolding fitting
     fits out h = rw (le-ltb (length out) (length all) (omega (arith, size)))
 
-  pub rows_short : {out : Bytes} → length out < end → TellsRows st w0 w1 u2 v2 out out reported.Short
+  pub rows_short : {out : Bytes} → length out < end → TellsRows st w0 w1 u2 v2 out out None
   rows_short {out} h = record {
     is = λ s ts a. rw (short s ts a out h) too_long;
     output = λ s ts a. rw (short s ts a out h) (untouched out);
     kept = sees.kept;
   }
 
-  pub rows_written : {out now : Bytes} {n : ℕ} → end ≤ length out → Puts 0 (take end lines) out now n → TellsRows st w0 w1 u2 v2 out now (reported.Written n)
+  pub rows_written : {out now : Bytes} {n : ℕ} → end ≤ length out → Puts 0 (take end lines) out now n → TellsRows st w0 w1 u2 v2 out now (Some n)
   rows_written {out} {now} {n} h p = record {
     is = λ s ts a. rw (fits s ts a out h) (written (all s ts a) ((same s ts a).end ∙ zero-add _));
     output = λ s ts a. rw (fits s ts a out h) (written_output (all s ts a) out (same s ts a).is);

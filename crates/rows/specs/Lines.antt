@@ -1,5 +1,5 @@
 -- The lines of the rows that rules see, and what the code answers: for every accepted sheet in the words.
-use Rattle.std.specs.Prelude.{List, [], ◌++◌, ℕ, ◌+◌, ◌≤◌, ◌<◌, ◌≡◌, length, get_or}
+use Rattle.std.specs.Prelude.{List, [], ◌++◌, ℕ, ◌+◌, ◌≤◌, ◌<◌, ◌≡◌, length, get_or, Option as Optional}
 use Rattle.std.specs.Prelude.{if◌then◌else◌}
 use Rattle.laws.specs.Lists.{member}
 use Rattle.memory.specs.Map as memory
@@ -14,7 +14,6 @@ use Rattle.text.specs.Written.{Puts}
 use Rattle.tables.specs.declared.Counts.{Counts}
 use Rattle.tables.specs.Layout.{Kept}
 use Rattle.rules.specs.Accepted.{Accepted}
-use Rattle.report.specs.declared.Reported.{Reported}
 use Rattle.report.specs.Reports.{SaysReport}
 use Rattle.rows.specs.Bits.{Bits}
 use Rattle.rows.specs.Seen.{AllSeen}
@@ -54,7 +53,7 @@ abbrev pub rows_on : Sheet → ℕ → Verdict
 rows_on s room = fitting room (rows_lines s 0 s.rules)
 
 -- w2 was `before` and is `after`; the output was `out` and is `now`
-pub record TellsRows (st : Counts) (w0 w1 before after : List ℕ) (out now : Bytes) (r : Reported) : Type 0 where
+pub record TellsRows (st : Counts) (w0 w1 before after : List ℕ) (out now : Bytes) (r : Optional ℕ) : Type 0 where
   pub is : (s : Sheet) (ts : List Ty) → Accepted st w0 w1 s ts → SaysReport r (rows_on s (length out))
   pub output : (s : Sheet) (ts : List Ty) → Accepted st w0 w1 s ts → now ≡ output_after (rows_on s (length out)) out
   pub kept : Kept before after

@@ -11,7 +11,6 @@ ghost use Rattle.rules.specs.Accepted.{KnownTyped};
 ghost use Rattle.rows.specs.Lines.{TellsRows};
 
 use lines::put_lines;
-use report::Reported;
 use seen::see_rows;
 use tables::Counts;
 use text::spelling::put_bytes;
@@ -21,7 +20,13 @@ const MOST_LINES: usize = 195 * memory::MOST_RULES as usize;
 
 // Writes the rows of the rules of the accepted sheet in the words. The lines are formed in bytes of their own, so that an output that is too
 // short is left as it is.
-pub fn rows_sheet(w0: &[u64], st: Counts, w1: &[u64], w2: &mut [u64], out: &mut [u8]) -> Reported
+pub fn rows_sheet(
+    w0: &[u64],
+    st: Counts,
+    w1: &[u64],
+    w2: &mut [u64],
+    out: &mut [u8],
+) -> Option<usize>
     requires least_words_in_bounds { (least_words ≤ length w0.now) × (least_words ≤ length w1.now) × (least_words ≤ length w2.old) }
     requires known_typed { KnownTyped st w0.now w1.now w2.old }
     ensures { TellsRows st w0.now w1.now w2.old w2.new out.old out.new result }
@@ -30,7 +35,7 @@ pub fn rows_sheet(w0: &[u64], st: Counts, w1: &[u64], w2: &mut [u64], out: &mut 
     see_rows(w1, w2);
     let end = put_lines(w0, st, w2, &mut lines);
     if out.len() < end {
-        return Reported::Short;
+        return None;
     }
-    Reported::Written(put_bytes(out, 0, &lines[..end]))
+    Some(put_bytes(out, 0, &lines[..end]))
 }

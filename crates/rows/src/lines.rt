@@ -26,10 +26,8 @@ fn put_rows(out: &mut [u8], at: usize, seen: u64, rows: u64) -> usize
     ensures { PutsRows (fields_of rows) 192 seen at out.old out.new result }
 {
     let mut end = at;
-    let mut i: u64 = 0;
-    while i < rows {
+    for i in 0..rows {
         end = put_row(out, end, seen, i);
-        i += 1;
     }
     end
 }
@@ -49,13 +47,10 @@ pub fn put_lines(w0: &[u64], st: Counts, w2: &[u64], out: &mut [u8]) -> usize
     requires { (least_words ≤ length w0.now) × (least_words ≤ length w2.now) × (12480 ≤ length out.old) × Rooted st w0.now }
     ensures { PutsLines st w0.now w2.now out.old out.new result }
 {
-    let rules = wide(st.rules);
-    let mut end: usize = 0;
-    let mut r: usize = 0;
-    while r < rules {
+    let mut end = 0;
+    for r in 0..wide(st.rules) {
         let root = wide(w0[memory::ROOTS + r]);
         end = put_line(out, end, r as u64, w2[root], st.rows);
-        r += 1;
     }
     end
 }

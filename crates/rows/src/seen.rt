@@ -59,13 +59,10 @@ fn own_row(w1: &[u64], n: usize) -> u64
     ensures { SeesOwn w1.now n result }
 {
     let form = node_word(w1, n, 0);
-    if form < codes::OF_OBJECT {
-        return 0;
+    match form {
+        codes::OF_OBJECT..=codes::OF_MEMBERS => 1 << (w1[memory::MARKS + n] % memory::MOST_ROWS),
+        _ => 0,
     }
-    if codes::OF_MEMBERS < form {
-        return 0;
-    }
-    1 << (w1[memory::MARKS + n] % memory::MOST_ROWS)
 }
 
 // The rows of node n, by those of the nodes before it.
@@ -73,12 +70,9 @@ fn node_rows(w1: &[u64], w2: &[u64], n: usize) -> u64
     requires { (n < most_nodes) × (memory.depths ≤ length w1.now) × (most_nodes ≤ length w2.now) }
     ensures { SeesNode w1.now w2.now n result }
 {
-    let count = operand_count(w1, n);
     let mut seen = own_row(w1, n);
-    let mut k: usize = 0;
-    while k < count {
-        seen = seen | operand_rows(w1, w2, n, k + 1);
-        k += 1;
+    for k in 0..operand_count(w1, n) {
+        seen |= operand_rows(w1, w2, n, k + 1);
     }
     seen
 }
@@ -88,11 +82,8 @@ pub fn see_rows(w1: &[u64], w2: &mut [u64])
     requires { (least_words ≤ length w1.now) × (least_words ≤ length w2.old) }
     ensures { SeesAll w1.now w2.old w2.new }
 {
-    let mut n: usize = 0;
-    while n < memory::NODES {
-        let seen = node_rows(w1, w2, n);
-        w2[n] = seen;
-        n += 1;
+    for n in 0..memory::NODES {
+        w2[n] = node_rows(w1, w2, n);
     }
 }
 

@@ -21,18 +21,17 @@ use Rattle.nodes.specs.Nodes.{word}
 use Rattle.tables.specs.declared.Counts.{Counts}
 use Rattle.tables.specs.Layout.{Kept}
 use Rattle.tables.proofs.Tables.{kept_refl, kept_set, kept_then}
-use Rattle.judgements.specs.declared.Reply.{Reply}
-use Rattle.judgements.specs.declared.Reply.TheVariants as reply
 use Rattle.judgements.specs.Replies.{meaning, write_marks}
 use Rattle.judgements.proofs.Composition.{write_append}
-use Rattle.rules.specs.declared.all.RulesTyped.{RulesTyped}
-use Rattle.rules.specs.declared.all.RulesTyped.TheVariants as code
 use Rattle.rules.specs.Accepted.{InWords, Known, TypesIn}
 use Rattle.rules.specs.Numbered.{TypesNumbered}
 use Rattle.rules.specs.All.{cleared_marks, DefinesAs, not_defined, all_defined, DefinesAll, TypesAs, a_refusal, all_typed, TypesAll, KeepsMarks, AcceptsAs, refused, accepted, Accepts}
 use Rattle.rules.proofs.Ready.{ready}
 use Rattle.rules.proofs.Marks.{accepted_same, marks_kept, kept_behind, zeros_length, marks_in}
 use Rattle.rules.proofs.RuleByRule.{take_elem, split_elem, typed_snoc, first_refusal, types_more, marks_snoc}
+use Rattle.std.specs.Prelude.{Result, Ok, Err}
+use Rattle.memory.specs.Refusals.{number, at}
+use Rattle.memory.specs.declared.refusals.Refused.{Refused}
 
 pub record TypedTo (st : Counts) (w0 w1 before now : List ℕ) (r : ℕ) : Type 0 where
   pub types : List Ty
@@ -59,8 +58,8 @@ module _ {st : Counts} {w0 w1 : List ℕ} where
   }
 
   -- rule r has a type, whose word is put behind the others
-  pub typed_next : {w2 u v : List ℕ} {rules r : ℕ} (w : ℕ) {a : Reply} {t : FlatType} → Known st w0 w1 → 8192 ≤ length w2 → rules ≡ st.rules → TypedTo st w0 w1 w2 u r
-      → r < rules → TypesNumbered st w0 w1 r u v a → a ≡ reply.Is t → type_in w ≡ ty_of t → TypedTo st w0 w1 w2 (set v (768 + r) w) (r + 1)
+  pub typed_next : {w2 u v : List ℕ} {rules r : ℕ} (w : ℕ) {a : Result FlatType Refused} {t : FlatType} → Known st w0 w1 → 8192 ≤ length w2 → rules ≡ st.rules → TypedTo st w0 w1 w2 u r
+      → r < rules → TypesNumbered st w0 w1 r u v a → a ≡ Ok t → type_in w ≡ ty_of t → TypedTo st w0 w1 w2 (set v (768 + r) w) (r + 1)
   unfolding typing_of
   typed_next {w2} {u} {v} {r = r} w {a} {t} known room count so h ty e is =
       let low : r < 64 = omega (arith, known.lies.fine.rules) in
@@ -88,25 +87,25 @@ module _ {st : Counts} {w0 w1 : List ℕ} where
           ∙ ap (write_marks (take 768 w2)) (sym (marks_snoc (schema_in s) (take r s.rules) x.0))
 
   -- the node of a refusal
-  pub refused_node : {u v : List ℕ} {rules r n p : ℕ} {a : Reply} → Known st w0 w1 → rules ≡ st.rules → r < rules → TypesNumbered st w0 w1 r u v a → a ≡ reply.No n p → p < 768
-  refused_node {r = r} {n} {p} k count h ty e =
+  pub refused_node : {u v : List ℕ} {rules r : ℕ} {a : Result FlatType Refused} {f : Refused} → Known st w0 w1 → rules ≡ st.rules → r < rules → TypesNumbered st w0 w1 r u v a → a ≡ Err f → f.place < 768
+  refused_node {r = r} {f = f} k count h ty e =
       let all = ready k.lies in
       let x = all.some_rule r (omega arith) in
-      (all.place r x.0 n p x.1 (sym (ty.is k.sheet k.lies x.0 x.1) ∙ ap meaning e)).0
+      (all.place r x.0 (number f.refusal) f.place x.1 (sym (ty.is k.sheet k.lies x.0 x.1) ∙ ap meaning e)).0
 
-  pub typed_refused : {w2 u v : List ℕ} {rules r n p k : ℕ} {a : Reply} → rules ≡ st.rules → TypedTo st w0 w1 w2 u r → r < rules
-      → TypesNumbered st w0 w1 r u v a → a ≡ reply.No n p → k ≡ word w1 p 7 → TypesAll st w0 w1 w2 v (code.No n k)
-  typed_refused {v = v} {r = r} {n} {p} {k} count so h ty e l = record {
-    is = λ s g. a_refusal (λ f.
+  pub typed_refused : {w2 u v : List ℕ} {rules r k : ℕ} {a : Result FlatType Refused} {f : Refused} → rules ≡ st.rules → TypedTo st w0 w1 w2 u r → r < rules
+      → TypesNumbered st w0 w1 r u v a → a ≡ Err f → k ≡ word w1 f.place 7 → TypesAll st w0 w1 w2 v (Err (at f.refusal k))
+  typed_refused {r = r} {f = f} count so h ty e l = record {
+    is = λ s g. a_refusal (λ v.
         let x = (ready g).some_rule r (omega arith) in
-        let q : (typing_of s x.0).answer ≡ untyped n p = sym (ty.is s g x.0 x.1) ∙ ap meaning e in
-        ap (λ (xs : List Rule). on_types s xs f) (split_elem s.rules r x.0 x.1)
-        ∙ first_refusal x.0 (so.typed s g) q (drop (suc r) s.rules) f
-        ∙ ap (refusal_at n) (((ready g).place r x.0 n p x.1 q).1 ∙ sym l));
+        let q : (typing_of s x.0).answer ≡ untyped (number f.refusal) f.place = sym (ty.is s g x.0 x.1) ∙ ap meaning e in
+        ap (λ (xs : List Rule). on_types s xs v) (split_elem s.rules r x.0 x.1)
+        ∙ first_refusal x.0 (so.typed s g) q (drop (suc r) s.rules) v
+        ∙ ap (refusal_at (number f.refusal)) (((ready g).place r x.0 (number f.refusal) f.place x.1 q).1 ∙ sym l));
     kept = kept_then so.kept (kept_behind ty.rest ty.size);
   }
 
-  pub typed_all : {w2 u : List ℕ} {rules r : ℕ} → rules ≡ st.rules → TypedTo st w0 w1 w2 u r → rules ≤ r → TypesAll st w0 w1 w2 u code.Yes
+  pub typed_all : {w2 u : List ℕ} {rules r : ℕ} → rules ≡ st.rules → TypedTo st w0 w1 w2 u r → rules ≤ r → TypesAll st w0 w1 w2 u (Ok tt)
   typed_all {r = r} count so h = let e : r ≡ st.rules = omega (arith, so.within) in record {
     is = λ s g.
         let q : take r s.rules ≡ s.rules = ap (λ (n : ℕ). take n s.rules) (e ∙ g.holds.counted.rules) ∙ take-length s.rules in
@@ -122,7 +121,7 @@ kept_cleared w h =
     (length-append (replicate 768 0) (drop 768 w) ∙ (let a = zeros_length in let b = length-drop 768 w in omega arith))
 
 module _ {st : Counts} {w0 u1 v1 m2 v2 : List ℕ} (u2 : List ℕ) (k : KeepsMarks v2 u1 v1) where
-  accepts_as : {a : RulesTyped} (s : Sheet) → InWords st w0 u1 s → DefinesAs s (cleared_marks u2) m2 code.Yes → TypesAs s m2 v2 a → AcceptsAs st w0 v1 v2 s a
+  accepts_as : {a : Result Unit Refused} (s : Sheet) → InWords st w0 u1 s → DefinesAs s (cleared_marks u2) m2 (Ok tt) → TypesAs s m2 v2 a → AcceptsAs st w0 v1 v2 s a
   accepts_as s g (all_defined all made) (a_refusal f) = refused (λ h. on_defined all (on_types s s.rules h) ∙ f h)
   accepts_as s g (all_defined all made) (all_typed ts types waiting more) =
       let zeros = take_at (replicate 768 0) (drop 768 u2) 768 zeros_length in
@@ -135,7 +134,7 @@ module _ {st : Counts} {w0 u1 v1 m2 v2 : List ℕ} (u2 : List ℕ) (k : KeepsMar
         marks = marks_in s (more ∙ ap (λ (l : List ℕ). write_marks l then) (made ∙ ap (λ (l : List ℕ). write_marks l first) zeros) ∙ sym (write_append (replicate 768 0) first then)) k;
       }) waiting
 
-  pub accepts : {a b : RulesTyped} {c : List ℕ} → 8192 ≤ length u2 → c ≡ cleared_marks u2 → DefinesAll st w0 u1 c m2 b → b ≡ code.Yes → TypesAll st w0 u1 m2 v2 a
+  pub accepts : {a b : Result Unit Refused} {c : List ℕ} → 8192 ≤ length u2 → c ≡ cleared_marks u2 → DefinesAll st w0 u1 c m2 b → b ≡ Ok tt → TypesAll st w0 u1 m2 v2 a
       → Accepts st w0 u1 u2 v1 v2 a
   accepts room e d y t = let f = rw (e, y) at d in record {
     is = λ s g. accepts_as s g (f.is s g) (t.is s g);
@@ -144,13 +143,13 @@ module _ {st : Counts} {w0 u1 v1 m2 v2 : List ℕ} (u2 : List ℕ) (k : KeepsMar
   }
 
 -- a definition that is refused: no rule is typed
-pub accepts_none : {st : Counts} {w0 u1 u2 v2 c : List ℕ} {n k : ℕ} {b : RulesTyped} → 8192 ≤ length u2 → c ≡ cleared_marks u2 → DefinesAll st w0 u1 c v2 b → b ≡ code.No n k
-    → Accepts st w0 u1 u2 u1 v2 (code.No n k)
-accepts_none {st} {w0} {u1} {u2} {v2} {n = n} {k} room e d y = let f = rw (e, y) at d in record {
-  is = λ s g. by s (f.is s g);
+pub accepts_none : {st : Counts} {w0 u1 u2 v2 c : List ℕ} {f : Refused} {b : Result Unit Refused} → 8192 ≤ length u2 → c ≡ cleared_marks u2 → DefinesAll st w0 u1 c v2 b → b ≡ Err f
+    → Accepts st w0 u1 u2 u1 v2 (Err f)
+accepts_none {st} {w0} {u1} {u2} {v2} {f = f} room e d y = let a = rw (e, y) at d in record {
+  is = λ s g. by s (a.is s g);
   kept1 = kept_refl u1;
-  kept2 = kept_then (kept_cleared u2 (omega arith)) f.kept;
+  kept2 = kept_then (kept_cleared u2 (omega arith)) a.kept;
 }
   where
-    by : (s : Sheet) → DefinesAs s (cleared_marks u2) v2 (code.No n k) → AcceptsAs st w0 u1 v2 s (code.No n k)
-    by s (not_defined h) = refused (λ f. h (on_types s s.rules f))
+    by : (s : Sheet) → DefinesAs s (cleared_marks u2) v2 (Err f) → AcceptsAs st w0 u1 v2 s (Err f)
+    by s (not_defined h) = refused (λ g. h (on_types s s.rules g))

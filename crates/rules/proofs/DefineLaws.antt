@@ -23,17 +23,17 @@ use Rattle.nodes.specs.Nodes.{word}
 use Rattle.tables.specs.declared.Counts.{Counts}
 use Rattle.tables.specs.Layout.{Kept}
 use Rattle.tables.proofs.Tables.{kept_refl, kept_then}
-use Rattle.judgements.specs.declared.Reply.{Reply}
-use Rattle.judgements.specs.declared.Reply.TheVariants as reply
 use Rattle.judgements.specs.Replies.{meaning, write_marks}
 use Rattle.judgements.proofs.Composition.{write_append}
-use Rattle.rules.specs.declared.all.RulesTyped.TheVariants as code
 use Rattle.rules.specs.Accepted.{InWords, Known}
 use Rattle.rules.specs.Numbered.{DefinesNumbered}
 use Rattle.rules.specs.All.{not_defined, all_defined, DefinesAll}
 use Rattle.rules.proofs.Ready.{ready}
 use Rattle.rules.proofs.Marks.{kept_behind}
 use Rattle.rules.proofs.RuleByRule.{take_elem, split_elem}
+use Rattle.std.specs.Prelude.{Result, Ok, Err}
+use Rattle.memory.specs.Refusals.{number, at}
+use Rattle.memory.specs.declared.refusals.Refused.{Refused}
 
 -- ---- one after the other
 
@@ -64,8 +64,8 @@ module _ {st : Counts} {w0 w1 : List ℕ} where
   unfolding definition_marks write_marks
   defined_none w2 = record { defined = λ s is. each_nil; marked = λ s is. refl; within = omega arith; kept = kept_refl w2 }
 
-  pub defined_next : {w2 u v : List ℕ} {definitions d : ℕ} {a : Reply} {t : FlatType} → definitions ≡ st.definitions → DefinedTo st w0 w1 w2 u d
-      → d < definitions → DefinesNumbered st w0 w1 d u v a → a ≡ reply.Is t → DefinedTo st w0 w1 w2 v (d + 1)
+  pub defined_next : {w2 u v : List ℕ} {definitions d : ℕ} {a : Result FlatType Refused} {t : FlatType} → definitions ≡ st.definitions → DefinedTo st w0 w1 w2 u d
+      → d < definitions → DefinesNumbered st w0 w1 d u v a → a ≡ Ok t → DefinedTo st w0 w1 w2 v (d + 1)
   defined_next {w2} {u} {v} {d = d} {t = t} count so h ty e = record {
     defined = λ s g. let x = definition s g in rw (add-one d, take_elem s.definitions d x.0 x.1) (each_append (so.defined s g) (each-cons (its s g) each_nil));
     marked = λ s g. let x = definition s g in marks s g ∙ rw (add-one d, take_elem s.definitions d x.0 x.1) refl;
@@ -91,26 +91,26 @@ module _ {st : Counts} {w0 w1 : List ℕ} where
           ∙ ap (write_marks (take 768 w2)) (sym (definition_marks_snoc (schema_in s) (take d s.definitions) x.0))
 
   -- the node of a refusal
-  pub undefined_node : {u v : List ℕ} {definitions d n p : ℕ} {a : Reply} → Known st w0 w1 → definitions ≡ st.definitions → d < definitions
-      → DefinesNumbered st w0 w1 d u v a → a ≡ reply.No n p → p < 768
-  undefined_node {d = d} {n} {p} k count h ty e =
+  pub undefined_node : {u v : List ℕ} {definitions d : ℕ} {a : Result FlatType Refused} {f : Refused} → Known st w0 w1 → definitions ≡ st.definitions → d < definitions
+      → DefinesNumbered st w0 w1 d u v a → a ≡ Err f → f.place < 768
+  undefined_node {d = d} {f = f} k count h ty e =
       let all = ready k.lies in
       let x = all.some_definition d (omega arith) in
-      (all.definition_place d x.0 n p x.1 (sym (ty.is k.sheet k.lies x.0 x.1) ∙ ap meaning e)).0
+      (all.definition_place d x.0 (number f.refusal) f.place x.1 (sym (ty.is k.sheet k.lies x.0 x.1) ∙ ap meaning e)).0
 
-  pub defined_refused : {w2 u v : List ℕ} {definitions d n p k : ℕ} {a : Reply} → definitions ≡ st.definitions → DefinedTo st w0 w1 w2 u d → d < definitions
-      → DefinesNumbered st w0 w1 d u v a → a ≡ reply.No n p → k ≡ word w1 p 7 → DefinesAll st w0 w1 w2 v (code.No n k)
-  defined_refused {d = d} {n} {p} count so h ty e l = record {
-    is = λ s g. not_defined (λ f.
+  pub defined_refused : {w2 u v : List ℕ} {definitions d k : ℕ} {a : Result FlatType Refused} {f : Refused} → definitions ≡ st.definitions → DefinedTo st w0 w1 w2 u d → d < definitions
+      → DefinesNumbered st w0 w1 d u v a → a ≡ Err f → k ≡ word w1 f.place 7 → DefinesAll st w0 w1 w2 v (Err (at f.refusal k))
+  defined_refused {d = d} {f = f} count so h ty e l = record {
+    is = λ s g. not_defined (λ v.
         let x = (ready g).some_definition d (omega arith) in
-        let q : (type_definition (schema_in s) x.0).answer ≡ untyped n p = sym (ty.is s g x.0 x.1) ∙ ap meaning e in
-        ap (λ (ds : List Definition). on_definitions s ds f) (split_elem s.definitions d x.0 x.1)
-        ∙ first_undefined x.0 (so.defined s g) q (drop (suc d) s.definitions) f
-        ∙ ap (refusal_at n) (((ready g).definition_place d x.0 n p x.1 q).1 ∙ sym l));
+        let q : (type_definition (schema_in s) x.0).answer ≡ untyped (number f.refusal) f.place = sym (ty.is s g x.0 x.1) ∙ ap meaning e in
+        ap (λ (ds : List Definition). on_definitions s ds v) (split_elem s.definitions d x.0 x.1)
+        ∙ first_undefined x.0 (so.defined s g) q (drop (suc d) s.definitions) v
+        ∙ ap (refusal_at (number f.refusal)) (((ready g).definition_place d x.0 (number f.refusal) f.place x.1 q).1 ∙ sym l));
     kept = kept_then so.kept (kept_behind ty.rest ty.size);
   }
 
-  pub defined_all : {w2 u : List ℕ} {definitions d : ℕ} → definitions ≡ st.definitions → DefinedTo st w0 w1 w2 u d → definitions ≤ d → DefinesAll st w0 w1 w2 u code.Yes
+  pub defined_all : {w2 u : List ℕ} {definitions d : ℕ} → definitions ≡ st.definitions → DefinedTo st w0 w1 w2 u d → definitions ≤ d → DefinesAll st w0 w1 w2 u (Ok tt)
   defined_all {d = d} count so h = let e : d ≡ st.definitions = omega (arith, so.within) in record {
     is = λ s g.
         let q : take d s.definitions ≡ s.definitions = ap (λ (n : ℕ). take n s.definitions) (e ∙ g.holds.counted.definitions) ∙ take-length s.definitions in

@@ -11,12 +11,14 @@ use Rattle.sheet.specs.Sheet.{Rule, Sheet, schema_in}
 use Rattle.sheet.specs.Calls.{typing_of}
 use Rattle.nodes.specs.Nodes.{tree_at}
 use Rattle.tables.specs.declared.Counts.{Counts}
-use Rattle.judgements.specs.declared.Reply.{Reply}
 use Rattle.judgements.specs.Replies.{write_marks}
 use Rattle.typing.specs.Rules.{LentTables, TypesRule, definition_at, TypesDefinition}
 use Rattle.rules.specs.Accepted.{Known, DefinitionIn, RuleIn}
 use Rattle.rules.specs.Numbered.{TypesNumbered, DefinesNumbered}
 use Rattle.rules.proofs.Ready.{ready}
+use Rattle.std.specs.Prelude.{Result}
+use Rattle.memory.specs.declared.refusals.Refused.{Refused}
+use Rattle.types.specs.declared.FlatType.{FlatType}
 
 -- what typing reads at the rule's place is the rule's
 rule_typing : {w0 w1 : List ℕ} {r root : ℕ} (s : Sheet) (x : Rule) → RuleIn w0 w1 r x → root ≡ get_or w0 (memory.roots + r) 0
@@ -46,7 +48,7 @@ module _ {st : Counts} {w0 w1 : List ℕ} {r : ℕ} where
   pub rule_root : {root : ℕ} → Known st w0 w1 → r < st.rules → root ≡ get_or w0 (memory.roots + r) 0 → root < 768
   rule_root k h e = omega (arith, (rule_known k h).1.root)
 
-  pub types_numbered : {classes rows root : ℕ} {before after : List ℕ} {a : Reply} → classes ≡ st.classes → rows ≡ st.rows → root ≡ get_or w0 (memory.roots + r) 0
+  pub types_numbered : {classes rows root : ℕ} {before after : List ℕ} {a : Result FlatType Refused} → classes ≡ st.classes → rows ≡ st.rows → root ≡ get_or w0 (memory.roots + r) 0
       → TypesRule w0 classes rows w1 (get_or w0 (memory.contexts + r) 0) root before after a → TypesNumbered st w0 w1 r before after a
   types_numbered {before = before} c n e t =
       record {
@@ -75,7 +77,7 @@ module _ {st : Counts} {w0 w1 : List ℕ} {d : ℕ} where
   pub definition_root : {root : ℕ} → Known st w0 w1 → d < st.definitions → root ≡ get_or w0 (memory.definition_roots + d) 0 → root < 768
   definition_root k h e = omega (arith, (definition_known k h).1.root)
 
-  pub defines_numbered : {classes rows root : ℕ} {before after : List ℕ} {a : Reply} → classes ≡ st.classes → rows ≡ st.rows → root ≡ get_or w0 (memory.definition_roots + d) 0
+  pub defines_numbered : {classes rows root : ℕ} {before after : List ℕ} {a : Result FlatType Refused} → classes ≡ st.classes → rows ≡ st.rows → root ≡ get_or w0 (memory.definition_roots + d) 0
       → TypesDefinition w0 classes rows w1 (get_or w0 (memory.definition_contexts + d) 0) (get_or w0 (memory.definition_types + d) 0) root before after a → DefinesNumbered st w0 w1 d before after a
   defines_numbered {before = before} c n e t =
       record {

@@ -6,67 +6,50 @@ ghost use Rattle.rules.specs.Accepted.{Known};
 ghost use Rattle.rules.specs.All.{cleared_marks, DefinesAll, TypesAll, KeepsMarks, Accepts};
 
 use crate::typed::{define_numbered, line_of, type_numbered};
-use judgements::Reply;
+use memory::refusals::Refused;
 use memory::words::wide;
 use tables::Counts;
 use types::word::pack;
-
-// How typing definitions or rules ends: each has its type; or the first refusal and its line.
-#[derive(Clone, Copy)]
-pub enum RulesTyped {
-    Yes,
-    No(u64, u64),
-}
 
 // Sets all marks in w2 to 0.
 fn clear_marks(w2: &mut [u64])
     requires { least_words ≤ length w2.old }
     ensures { w2.new ≡ cleared_marks w2.old }
 {
-    let mut i = 0;
-    while i < memory::NODES {
-        w2[i] = 0;
-        i += 1;
-    }
+    w2[..memory::NODES].fill(0);
 }
 
 // Types each definition: its marks are added to those in w2.
-fn type_definitions(w0: &[u64], st: Counts, w1: &[u64], w2: &mut [u64]) -> RulesTyped
+fn type_definitions(w0: &[u64], st: Counts, w1: &[u64], w2: &mut [u64]) -> Result<(), Refused>
     requires least_words_in_bounds { (least_words ≤ length w0.now) × (least_words ≤ length w1.now) × (least_words ≤ length w2.old) }
     requires known { Known st w0.now w1.now }
     ensures { DefinesAll st w0.now w1.now w2.old w2.new result }
 {
-    let definitions = wide(st.definitions);
-    let mut d: usize = 0;
-    while d < definitions {
-        if let Reply::No(number, p) = define_numbered(w0, st, w1, w2, d) {
-            return RulesTyped::No(number, line_of(w1, p));
+    for d in 0..wide(st.definitions) {
+        if let Err(refused) = define_numbered(w0, st, w1, w2, d) {
+            return Err(refused.refusal.at(line_of(w1, refused.place)));
         }
-        d += 1;
     }
-    RulesTyped::Yes
+    Ok(())
 }
 
 // Types each rule: its marks are added to those in w2, and its type is put behind them.
-fn type_all(w0: &[u64], st: Counts, w1: &[u64], w2: &mut [u64]) -> RulesTyped
+fn type_all(w0: &[u64], st: Counts, w1: &[u64], w2: &mut [u64]) -> Result<(), Refused>
     requires least_words_in_bounds { (least_words ≤ length w0.now) × (least_words ≤ length w1.now) × (least_words ≤ length w2.old) }
     requires known { Known st w0.now w1.now }
     ensures { TypesAll st w0.now w1.now w2.old w2.new result }
 {
-    let rules = wide(st.rules);
-    let mut r: usize = 0;
-    while r < rules {
+    for r in 0..wide(st.rules) {
         match type_numbered(w0, st, w1, w2, r) {
-            Reply::No(number, p) => {
-                return RulesTyped::No(number, line_of(w1, p));
+            Err(refused) => {
+                return Err(refused.refusal.at(line_of(w1, refused.place)));
             }
-            Reply::Is(t) => {
+            Ok(t) => {
                 w2[memory::RULE_TYPES + r] = pack(t);
             }
         }
-        r += 1;
     }
-    RulesTyped::Yes
+    Ok(())
 }
 
 // Copies the marks that typing left in w2 to w1: evaluation needs w2 for its values.
@@ -74,23 +57,17 @@ fn keep_marks(w2: &[u64], w1: &mut [u64])
     requires { (least_words ≤ length w1.old) × (least_words ≤ length w2.now) }
     ensures { KeepsMarks w2.now w1.old w1.new }
 {
-    let mut p = 0;
-    while p < memory::NODES {
-        w1[memory::MARKS + p] = w2[p];
-        p += 1;
-    }
+    w1[memory::MARKS..memory::DEPTHS].copy_from_slice(&w2[..memory::NODES]);
 }
 
 // Types the definitions and then the rules of the sheet that lies in the words, and keeps their marks.
-pub fn accept(w0: &[u64], st: Counts, w1: &mut [u64], w2: &mut [u64]) -> RulesTyped
+pub fn accept(w0: &[u64], st: Counts, w1: &mut [u64], w2: &mut [u64]) -> Result<(), Refused>
     requires least_words_in_bounds { (least_words ≤ length w0.now) × (least_words ≤ length w1.old) × (least_words ≤ length w2.old) }
     requires known { Known st w0.now w1.old }
     ensures { Accepts st w0.now w1.old w2.old w1.new w2.new result }
 {
     clear_marks(w2);
-    if let RulesTyped::No(number, line) = type_definitions(w0, st, w1, w2) {
-        return RulesTyped::No(number, line);
-    }
+    type_definitions(w0, st, w1, w2)?;
     let typed = type_all(w0, st, w1, w2);
     keep_marks(w2, w1);
     typed

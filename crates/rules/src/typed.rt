@@ -5,14 +5,21 @@ ghost use Rattle.nodes.specs.Nodes.{word};
 ghost use Rattle.rules.specs.Accepted.{Known};
 ghost use Rattle.rules.specs.Numbered.{TypesNumbered, DefinesNumbered};
 
-use judgements::Reply;
+use memory::refusals::Refused;
 use memory::words::wide;
 use nodes::node_word;
 use tables::Counts;
+use types::FlatType;
 use typing::rules::{type_definition, type_rule};
 
 // The type of rule r, or its refusal and the node. The marks of its nodes are added to those in w2.
-pub fn type_numbered(w0: &[u64], st: Counts, w1: &[u64], w2: &mut [u64], r: usize) -> Reply
+pub fn type_numbered(
+    w0: &[u64],
+    st: Counts,
+    w1: &[u64],
+    w2: &mut [u64],
+    r: usize,
+) -> Result<FlatType, Refused>
     requires least_words_in_bounds { (least_words ≤ length w0.now) × (least_words ≤ length w1.now) × (least_words ≤ length w2.old) }
     requires known { Known st w0.now w1.now × (r < st.rules) }
     ensures { TypesNumbered st w0.now w1.now r w2.old w2.new result }
@@ -25,7 +32,13 @@ pub fn type_numbered(w0: &[u64], st: Counts, w1: &[u64], w2: &mut [u64], r: usiz
 }
 
 // The same for definition d.
-pub fn define_numbered(w0: &[u64], st: Counts, w1: &[u64], w2: &mut [u64], d: usize) -> Reply
+pub fn define_numbered(
+    w0: &[u64],
+    st: Counts,
+    w1: &[u64],
+    w2: &mut [u64],
+    d: usize,
+) -> Result<FlatType, Refused>
     requires least_words_in_bounds { (least_words ≤ length w0.now) × (least_words ≤ length w1.now) × (least_words ≤ length w2.old) }
     requires known { Known st w0.now w1.now × (d < st.definitions) }
     ensures { DefinesNumbered st w0.now w1.now d w2.old w2.new result }

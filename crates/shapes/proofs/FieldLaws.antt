@@ -15,11 +15,11 @@ use Rattle.sheet.specs.Text.{Bytes, fields_of}
 use Rattle.sheet.specs.Lines.{each, a_number}
 use Rattle.text.specs.Numbers.{cut_num}
 use Rattle.text.specs.Parts.{Cut}
-use Rattle.text.specs.declared.numbers.Num.TheVariants as num
 use Rattle.text.specs.declared.parts.Fields.{Fields}
 use Rattle.text.proofs.NumberLaws.{num_bad, num_is}
 use Rattle.shapes.specs.declared.numbers.Numbers.{Numbers}
 use Rattle.shapes.specs.Fields.{cut, four, exact, unread, read, NumbersRead}
+use Rattle.std.specs.Prelude.{Some, None}
 
 -- the fields of a line that was cut are as many as it says
 pub field_count : {line : Bytes} {f : Fields} {to : ℕ} → Cut line f → to ≤ f.count → to ≤ length (fields_of line)
@@ -74,14 +74,14 @@ module _ {fs : List Bytes} {from to i : ℕ} {at : List ℕ} (so : ReadTo fs fro
       rw (e, q) (record { is = read refl so.held; small = λ k. rw so.held (four_small so.seen k); size = ap length so.held })
 
   module _ (more : i < to) (within : to ≤ length fs) where
-    pub read_bad : {r : Numbers} → num.Bad ≡ cut_num (a_number (get_or fs i [])) → NumbersRead none r → NumbersRead (each a_number (take (to - from) (drop from fs))) r
+    pub read_bad : {r : Numbers} → None ≡ cut_num (a_number (get_or fs i [])) → NumbersRead none r → NumbersRead (each a_number (take (to - from) (drop from fs))) r
     unfolding each map_some on_some
     read_bad h d =
         let e : each a_number (take (to - from) (drop from fs)) ≡ none
         = so.whole ∙ rw (part_next [] fs i to more within, num_bad (a_number (get_or fs i [])) h) in
         rw e d
 
-    pub read_next : {m : ℕ} → num.Is m ≡ cut_num (a_number (get_or fs i [])) → to ≤ from + 4 → ReadTo fs from to (i + 1) (set at (i - from) m)
+    pub read_next : {m : ℕ} → Some m ≡ cut_num (a_number (get_or fs i [])) → to ≤ from + 4 → ReadTo fs from to (i + 1) (set at (i - from) m)
     unfolding each map_some on_some
     read_next {m} h room = go (a_number (get_or fs i [])) refl (num_is (a_number (get_or fs i [])) h)
       where

@@ -29,8 +29,6 @@ use Rattle.types.proofs.Within.{read_bad, read_big, read_is, type_class, within_
 use Rattle.types.specs.declared.Base.{Base}
 use Rattle.types.specs.declared.Base.TheVariants as b
 use Rattle.types.specs.declared.FlatType.{FlatType}
-use Rattle.types.specs.declared.GotType.{GotType}
-use Rattle.types.specs.declared.GotType.TheVariants as g
 use Rattle.text.specs.Forms.{shape_by}
 use Rattle.text.proofs.ShapeLaws.{iterate_shape}
 use Rattle.text.specs.Parts.{Cut}
@@ -45,6 +43,9 @@ use Rattle.shapes.specs.Iterate.{classes_in, HoldsType, Held, TypeSpelled, no_ty
 use Rattle.shapes.specs.Built.{Iterates}
 use Rattle.shapes.proofs.FieldLaws.{rest_exact}
 use Rattle.shapes.proofs.FormLaws.{cut_variable, variable_small, nodes_small}
+use Rattle.std.specs.Prelude.{Result, Ok, Err}
+use Rattle.memory.specs.declared.refusals.Misread.{Misread}
+use Rattle.memory.specs.declared.refusals.Misread.TheVariants.{Malformed, OverLimit}
 
 -- ---- the class in a type
 
@@ -72,11 +73,11 @@ few_classes (b.Class c) h = omega arith
 
 -- ---- what was read as a type
 
-module _ {r : GotType} where
-  pub type_bad : r ≡ g.Bad → TypeTold r (record { spelled = false; within = false; word = 0; classes = 0 })
+module _ {r : Result FlatType Misread} where
+  pub type_bad : r ≡ Err Malformed → TypeTold r (record { spelled = false; within = false; word = 0; classes = 0 })
   type_bad e = record { is = λ o told. rw (read_bad o told e) (no_type refl); low = omega arith }
 
-  pub type_big : r ≡ g.Big → TypeTold r (record { spelled = true; within = false; word = 0; classes = 0 })
+  pub type_big : r ≡ Err OverLimit → TypeTold r (record { spelled = true; within = false; word = 0; classes = 0 })
   type_big e = record {
     is = λ o told.
         let x = read_big o told e in
@@ -84,7 +85,7 @@ module _ {r : GotType} where
     low = omega arith;
   }
 
-  module _ (t : FlatType) (h : Held r) (e : r ≡ g.Is t) where
+  module _ (t : FlatType) (h : Held r) (e : r ≡ Ok t) where
     pub type_small : base_class t.base < 64
     type_small = within_class t (read_is h.type h.is t e).1
 
@@ -220,16 +221,9 @@ module _ {h t : Numbers} {y : TypeRead} {good : Bool} {line : ℕ} {p : Parsed} 
   pub iterate_read : good ≡ true → Iterates h.at y t.at line p → FormRead line (shape_by 35 (drop 3 (fields_of text))) p
   iterate_read b q = fields_read h t y all (q.fine.spelled ∙ sym b) (λ g. q.is) q.fine.few q.fine.size q.fine.classes cut_up n hd ty tl
 
--- what the calls told, as the law asks for it
-pub both_variables : {v u w : Bool} (c : Bool) (i j : ℕ) → v ≡ is_variable i → u ≡ is_variable j → w ≡ (v && u && c) → w ≡ (is_variable i && is_variable j && c)
-both_variables c i j p q e = e ∙ rw (p, q)
-
 -- a field's type
-pub field_type : {g : GotType} {y : TypeRead} {f : Bytes} (e : Bytes) → f ≡ e → type_field g ≡ held (read_type f) → TypeTold g y → TypeSpelled (read_type e) y
+pub field_type : {g : Result FlatType Misread} {y : TypeRead} {f : Bytes} (e : Bytes) → f ≡ e → type_field g ≡ held (read_type f) → TypeTold g y → TypeSpelled (read_type e) y
 field_type e q h y = rw (← q) (y.is _ h)
 
-pub field_held : {g : GotType} (f : Bytes) → type_field g ≡ held (read_type f) → Held g
+pub field_held : {g : Result FlatType Misread} (f : Bytes) → type_field g ≡ held (read_type f) → Held g
 field_held f h = record { type = read_type f; is = h }
-
-pub classes_less : (a : Base) (c : ℕ) → base_class a < 64 → a ≡ b.Class c → c < 64
-classes_less a c h e = rw e at h

@@ -10,7 +10,7 @@ use borrow.Author.Tests.{eq-eqb, ne_eqb, eqb-true, eqb-false, le-leb, lt-leb, no
 use lib.Dec.{eqb}
 use lib.ListN.{length, get_or, take}
 use Rattle.laws.specs.Choice.{or_else, on_some, map_some}
-use Rattle.std.specs.Prelude.{if◌then◌else◌}
+use Rattle.std.specs.Prelude.{if◌then◌else◌, Ok, Err}
 use Rattle.laws.proofs.Cases.{zero_least}
 use Rattle.laws.proofs.Options.{nowhere}
 use Rattle.laws.proofs.Tests.{Any?, any_some}
@@ -26,7 +26,6 @@ use Rattle.sheet.specs.Refusals.{two_variables, form_known}
 use Rattle.text.specs.Forms.{shape_by}
 use Rattle.text.specs.Literals.{literal_of}
 use Rattle.text.specs.Words.{only_byte}
-use Rattle.text.specs.declared.literals.Literal.TheVariants.{Bad, Over, Is}
 use Rattle.text.proofs.ShapeLaws.{over_forms, between_forms, no_shape, integer_shape, real_shape, assemble_shape}
 use Rattle.text.proofs.LiteralLaws.{literal_bad, literal_over, literal_is}
 use Rattle.nodes.specs.Nodes.{Called, leaf_words, assemble_code, operand_word, shape_words}
@@ -38,6 +37,7 @@ use Rattle.shapes.specs.Forms.{StandsFor, Spelled, spelled, FormRead, kind_byte_
 use Rattle.shapes.specs.Built.{Assembles}
 use Rattle.shapes.proofs.ExactLaws.{each-length}
 use Rattle.shapes.proofs.FormLaws.{nodes_small, is_iterate, no_type}
+use Rattle.memory.specs.declared.refusals.Misread.TheVariants.{Malformed, OverLimit}
 
 -- ---- `int` and `real`
 
@@ -76,11 +76,11 @@ module _ (fs : List Bytes) where
 
 -- what `number_form` answers
 module _ (o : Option Number) where
-  pub number_bad : Bad ≡ literal_of o → map_some (λ x. leaf (number x)) o ≡ none
+  pub number_bad : (Err Malformed) ≡ literal_of o → map_some (λ x. leaf (number x)) o ≡ none
   unfolding map_some
   number_bad h = rw (literal_bad o h)
 
-  pub number_over : {line : ℕ} → Over ≡ literal_of o
+  pub number_over : {line : ℕ} → Err OverLimit ≡ literal_of o
       → FormRead line (map_some (λ x. leaf (number x)) o) (record { spelled = true; words = 3 ∷ 0 ∷ 0 ∷ 0 ∷ 0 ∷ 0 ∷ 0 ∷ line ∷ []; count = 0; within = false; apart = true; classes = 0 })
   unfolding map_some held_by leaf_held form_within two_variables operands_of is_iterate
   number_over {line} h = record { is = go (literal_over o h); few = omega arith; size = refl; low = omega arith }
@@ -102,7 +102,7 @@ module _ (o : Option Number) where
             words = λ h k. absurd (true≢false (sym h ∙ e));
           })
 
-  pub number_is : {line w : ℕ} → Is w ≡ literal_of o
+  pub number_is : {line w : ℕ} → Ok w ≡ literal_of o
       → FormRead line (map_some (λ x. leaf (number x)) o) (record { spelled = true; words = 3 ∷ w ∷ 0 ∷ 0 ∷ 0 ∷ 0 ∷ 0 ∷ line ∷ []; count = 0; within = true; apart = true; classes = 0 })
   unfolding map_some held_by leaf_held form_within two_variables form_known operands_of shape_words leaf_words is_iterate
   number_is {line} {w} h = record { is = go (literal_is o h); few = omega arith; size = refl; low = omega arith }

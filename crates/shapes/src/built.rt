@@ -12,10 +12,7 @@ use memory::codes;
 pub fn is_variable(i: u64) -> bool
     ensures { result ≡ is_variable i }
 {
-    if i < 1 {
-        return false;
-    }
-    i <= 15
+    1 <= i && i <= 15
 }
 
 // More classes than there may be.

@@ -63,10 +63,7 @@ fn collection_form(line: &[u8], f: Fields, k: u64) -> Parsed
     ensures { FormRead k (shape_by code.set (drop 3 (fields_of line.now))) result }
 {
     let count = f.count;
-    if count < 4 {
-        return misspelled();
-    }
-    if 8 < count {
+    if count < 4 || 8 < count {
         return misspelled();
     }
     let code = kind_code(field(line, f, 3));

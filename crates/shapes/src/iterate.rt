@@ -15,10 +15,11 @@ use super::built::is_variable;
 use super::forms::misspelled;
 use super::numbers::number_fields;
 use memory::codes::ITERATE;
+use memory::refusals::Misread;
 use text::parts::{Fields, field};
 use types::reading::read_type;
 use types::word::pack;
-use types::{Base, GotType};
+use types::{Base, FlatType};
 
 // What should be a type: whether it is one, whether the type is within its limits, its word, and how many classes there must be for the
 // class in it.
@@ -41,29 +42,29 @@ fn classes_in(b: Base) -> u64
         Base::Int => 0,
         Base::Any => 0,
         Base::Real => 0,
-        Base::Class(c) => c as u64 + 1,
+        Base::Class(c) => u64::from(c) + 1,
     }
 }
 
 // A type that was read, or none that was, as the node table has it.
-pub fn type_read(g: GotType) -> TypeRead
+pub fn type_read(g: Result<FlatType, Misread>) -> TypeRead
     requires { Held g }
     ensures { TypeTold g result }
 {
     match g {
-        GotType::Bad => TypeRead {
+        Err(Misread::Malformed) => TypeRead {
             spelled: false,
             within: false,
             word: 0,
             classes: 0,
         },
-        GotType::Big => TypeRead {
+        Err(Misread::OverLimit) => TypeRead {
             spelled: true,
             within: false,
             word: 0,
             classes: 0,
         },
-        GotType::Is(t) => {
+        Ok(t) => {
             let b = t.base;
             TypeRead {
                 spelled: true,
@@ -75,18 +76,6 @@ pub fn type_read(g: GotType) -> TypeRead
     }
 }
 
-fn all_three(a: bool, b: bool, c: bool) -> bool
-    ensures { result ≡ (a && b && c) }
-{
-    if !a {
-        return false;
-    }
-    if !b {
-        return false;
-    }
-    c
-}
-
 // `iter` from s, i and j, its type, and e and b.
 pub fn iterated(h: [u64; 4], of: TypeRead, t: [u64; 4], k: u64) -> Parsed
     requires { (length h ≡ 4) × (length t ≡ 4) × (of.classes ≤ most_classes + 1) }
@@ -96,7 +85,7 @@ pub fn iterated(h: [u64; 4], of: TypeRead, t: [u64; 4], k: u64) -> Parsed
         spelled: true,
         words: [ITERATE, h[0], t[0], t[1], h[1], h[2], of.word, k],
         count: 3,
-        within: all_three(is_variable(h[1]), is_variable(h[2]), of.within),
+        within: is_variable(h[1]) && is_variable(h[2]) && of.within,
         apart: h[1] != h[2],
         classes: of.classes,
     }
@@ -113,10 +102,9 @@ pub fn iterate_form(line: &[u8], f: Fields, k: u64) -> Parsed
     let head = number_fields(line, f, 3, 6);
     let of = type_read(read_type(field(line, f, 6)));
     let tail = number_fields(line, f, 7, 9);
-    if !all_three(head.good, of.spelled, tail.good) {
-        return misspelled();
+    if head.good && of.spelled && tail.good {
+        iterated(head.at, of, tail.at, k)
+    } else {
+        misspelled()
     }
-    let h = head.at;
-    let t = tail.at;
-    iterated(h, of, t, k)
 }

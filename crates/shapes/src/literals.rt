@@ -15,17 +15,18 @@ ghost use Rattle.shapes.specs.Forms.{FormRead};
 use super::Parsed;
 use super::forms::misspelled;
 use memory::codes;
-use text::literals::{Literal, integer_literal, real_literal};
+use memory::refusals::Misread;
+use text::literals::{integer_literal, real_literal};
 use text::numbers::integer;
 use text::parts::{Fields, field};
 
 // The form of a number, if a value may hold it.
-pub fn number_form(n: Literal, k: u64) -> Parsed
+pub fn number_form(n: Result<u64, Misread>, k: u64) -> Parsed
     ensures { (o : Option Number) → n ≡ literal_of o → FormRead k (map_some (λ x. leaf (number x)) o) result }
 {
     match n {
-        Literal::Bad => misspelled(),
-        Literal::Over => Parsed {
+        Err(Misread::Malformed) => misspelled(),
+        Err(Misread::OverLimit) => Parsed {
             spelled: true,
             words: [codes::NUMBER, 0, 0, 0, 0, 0, 0, k],
             count: 0,
@@ -33,7 +34,7 @@ pub fn number_form(n: Literal, k: u64) -> Parsed
             apart: true,
             classes: 0,
         },
-        Literal::Is(word) => Parsed {
+        Ok(word) => Parsed {
             spelled: true,
             words: [codes::NUMBER, word, 0, 0, 0, 0, 0, k],
             count: 0,

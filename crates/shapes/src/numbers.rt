@@ -6,7 +6,7 @@ ghost use Rattle.sheet.specs.Lines.{each, a_number};
 ghost use Rattle.text.specs.Parts.{Cut};
 ghost use Rattle.shapes.specs.Fields.{exact, NumbersRead};
 
-use text::numbers::{Num, number};
+use text::numbers::number;
 use text::parts::{Fields, field};
 
 // The numbers, in the order of their fields, and 0 after them; `good` is false where a field is no number.
@@ -31,16 +31,13 @@ pub fn number_fields(line: &[u8], f: Fields, from: usize, to: usize) -> Numbers
     ensures { NumbersRead (each a_number (take (to - from) (drop from (fields_of line.now)))) result }
 {
     let mut at: [u64; 4] = [0; 4];
-    let mut i = from;
-    while i < to {
-        let Num::Is(n) = number(field(line, f, i)) else {
+    for i in from..to {
+        let Some(n) = number(field(line, f, i)) else {
             return no_numbers();
         };
-        let k = i - from;
-        at[k] = n;
-        i += 1;
+        at[i - from] = n;
     }
-    Numbers { good: true, at: at }
+    Numbers { good: true, at }
 }
 
 // The fields after a form's word, where they are m numbers.

@@ -60,9 +60,9 @@ module _ {parents objects : List ℕ} {o at : ℕ} (e : at ≡ o) where
   unfolding class_is_a
   object_there d h c = record { is = λ m sn. c ∙ sym (class_at m sn (class d) ∙ rw (elem_some objects at 0 h)) }
 
-  pub object_gone : (d : ℕ) → length objects ≤ at → ObjectSuits parents objects o d false
+  pub object_gone : (d : ℕ) → length objects ≤ at → ObjectSuits parents objects o d (ltb at (length objects))
   unfolding class_is_a
-  object_gone d h = record { is = λ m sn. sym (class_at m sn (class d) ∙ rw (elem_none objects at h)) }
+  object_gone d h = record { is = λ m sn. le-ltb at (length objects) h ∙ sym (class_at m sn (class d) ∙ rw (elem_none objects at h)) }
 
   pub in_any : (b : Base) {y : ℕ} → y ≡ base_tag b → y ≡ 3 → ObjectIn parents objects o b (ltb at (length objects))
   unfolding belongs
@@ -166,6 +166,3 @@ module _ {parents objects : List ℕ} (b : Base) {cell t : ℕ} (so : SortOf cel
               ap (λ (k : ℕ). eqb k 4) ye
               ∙ by_number (λ w. eqb (base_tag b) 4 ≡ belongs m (base_type b) w) (λ x. rw (ne_eqb (base_tag b) 2 (λ x. i (ye ∙ x))) at (number_other b (λ x. z (ye ∙ x)) m x)) v (let q = so.is v f ce in omega arith);
         }
-
-pub low_sort : {t : ℕ} → (t ≡ 2 → ⊥) → t ≤ 2 → t < 2
-low_sort n h = omega arith

@@ -5,6 +5,7 @@ use mathlib.Core.List.{List, [], ◌∷◌}
 use Prim.Native.Nat.{ℕ, suc, ◌+◌, ◌<◌, ◌≤◌}
 use native.Mathlib.Omega.{arith}
 use lib.ListN.{length, drop}
+use Rattle.std.specs.Prelude.{Some, None}
 use Rattle.laws.specs.Lists.{each_nil, each-cons}
 use Rattle.laws.proofs.Options.{on_some_some}
 use Rattle.ocl.specs.Types.{Kind}
@@ -68,7 +69,7 @@ module _ {f : Bytes} {A : List ℕ} {at : ℕ} {o : Open} (w : Wanted f A at o) 
   wanted_parts : (m : ℕ) × (w.parts ≡ suc m)
   wanted_parts = some_parts w.parts (let l = w.left in omega arith)
 
-  pub begin_bad : PartIs f at part.Bad → read_value f ≡ none
+  pub begin_bad : PartIs f at None → read_value f ≡ none
   begin_bad (part_bad q n) = let m = wanted_parts in w.same ∙ start_none w.parts w.frames (drop at f) (ap (λ (k : ℕ). value_parser k (drop at f)) m.1 ∙ n m.0)
   begin_bad (part_opens k q l n) = absurd (let z : ◌≡◌ {A = ℕ} 0 1 = cc in omega arith)
   begin_bad (part_alone v _ x'' _) = elim x'' [ ]
@@ -76,7 +77,7 @@ module _ {f : Bytes} {A : List ℕ} {at : ℕ} {o : Open} (w : Wanted f A at o) 
   read_to : {v : Value} {r : Bytes} → ((n : ℕ) → value_parser (suc n) (drop at f) ≡ some (v, r)) → read_value f ≡ resume_read w.frames v r
   read_to n = let m = wanted_parts in w.same ∙ start_alone w.parts w.frames (drop at f) (ap (λ (k : ℕ). value_parser k (drop at f)) m.1 ∙ n m.0)
 
-  pub begin_simple : {c e : ℕ} {B : List ℕ} {s : Open} → PartIs f at (part.Simple c e) → AddsCell c A o B s → ValueEnd f B e s
+  pub begin_simple : {c e : ℕ} {B : List ℕ} {s : Open} → PartIs f at (Some (part.Simple c e)) → AddsCell c A o B s → ValueEnd f B e s
   begin_simple (part_bad q n) a = absurd (let z : ◌≡◌ {A = ℕ} 0 1 = cc in omega arith)
   begin_simple (part_opens k q l n) a = absurd (let z : ◌≡◌ {A = ℕ} 0 1 = cc in omega arith)
   begin_simple {c} {e} {B} {s} (part_alone v al (told_simple af ce t) n) a =
@@ -92,7 +93,7 @@ module _ {f : Bytes} {A : List ℕ} {at : ℕ} {o : Open} (w : Wanted f A at o) 
         same = q;
       }
 
-  pub begin_wide : {e : ℕ} {s : Open} → PartIs f at (part.Wide e) → s ≡ beyond o → ValueEnd f A e s
+  pub begin_wide : {e : ℕ} {s : Open} → PartIs f at (Some (part.Wide e)) → s ≡ beyond o → ValueEnd f A e s
   begin_wide (part_bad q n) z = absurd (let z : ◌≡◌ {A = ℕ} 0 1 = cc in omega arith)
   begin_wide (part_opens k q l n) z = absurd (let z : ◌≡◌ {A = ℕ} 0 1 = cc in omega arith)
   begin_wide {e} {s} (part_alone v al (told_wide af t) n) z =
@@ -110,7 +111,7 @@ module _ {f : Bytes} {A : List ℕ} {at : ℕ} {o : Open} (w : Wanted f A at o) 
         same = q;
       })
 
-  pub begin_opens : {c e : ℕ} {B : List ℕ} {s : Open} → PartIs f at (part.Opens c e) → OpensCell c A o B s → Live f B e 1 s
+  pub begin_opens : {c e : ℕ} {B : List ℕ} {s : Open} → PartIs f at (Some (part.Opens c e)) → OpensCell c A o B s → Live f B e 1 s
   begin_opens {c} {e} {B} {s} (part_opens k q l n) a =
       let m = wanted_parts in
       let x = some_parts m.0 (let y = w.left in let z = m.1 in omega arith) in
@@ -149,17 +150,17 @@ begun f A z = rw z (live_wanted refl (record {
 
 -- ---- how far a part reaches
 
-pub simple_up : {f : Bytes} {at c e : ℕ} → PartIs f at (part.Simple c e) → at + 1 ≤ e
+pub simple_up : {f : Bytes} {at c e : ℕ} → PartIs f at (Some (part.Simple c e)) → at + 1 ≤ e
 simple_up (part_bad q n) = absurd (let z : ◌≡◌ {A = ℕ} 0 1 = cc in omega arith)
 simple_up (part_opens k q l n) = absurd (let z : ◌≡◌ {A = ℕ} 0 1 = cc in omega arith)
 simple_up (part_alone v al (told_simple af ce t) n) = let u = af.up in omega arith
 
-pub wide_up : {f : Bytes} {at e : ℕ} → PartIs f at (part.Wide e) → at + 1 ≤ e
+pub wide_up : {f : Bytes} {at e : ℕ} → PartIs f at (Some (part.Wide e)) → at + 1 ≤ e
 wide_up (part_bad q n) = absurd (let z : ◌≡◌ {A = ℕ} 0 1 = cc in omega arith)
 wide_up (part_opens k q l n) = absurd (let z : ◌≡◌ {A = ℕ} 0 1 = cc in omega arith)
 wide_up (part_alone v al (told_wide af t) n) = let u = af.up in omega arith
 
-pub opens_up : {f : Bytes} {at c e : ℕ} → PartIs f at (part.Opens c e) → at + 1 ≤ e
+pub opens_up : {f : Bytes} {at c e : ℕ} → PartIs f at (Some (part.Opens c e)) → at + 1 ≤ e
 opens_up {at} {e} (part_opens k q l n) = let z : at + 2 ≡ e = cc in omega arith
 opens_up (part_bad q n) = absurd (let z : ◌≡◌ {A = ℕ} 0 1 = cc in omega arith)
 opens_up {f = f} {at = at} {c = c} {e = e} (part_alone v _ x'' _) = elim x'' [ ]

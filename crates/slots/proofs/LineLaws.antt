@@ -22,7 +22,6 @@ use Rattle.sheet.specs.Limits.{value_within, within_limits, total_size}
 use Rattle.text.specs.Numbers.{cut_num}
 use Rattle.text.specs.Parts.{Cut}
 use Rattle.text.specs.declared.parts.Fields.{Fields}
-use Rattle.text.specs.declared.numbers.Num.TheVariants as num
 use Rattle.text.proofs.NumberLaws.{num_bad}
 use Rattle.text.proofs.PartLaws.{counted_exact}
 use Rattle.types.specs.Word.{type_in}
@@ -30,17 +29,19 @@ use Rattle.values.specs.Cells.{enc}
 use Rattle.values.proofs.Encoding.{size_law, some_cells}
 use Rattle.nodes.specs.Nodes.{tree_at}
 use Rattle.tables.specs.declared.Counts.{Counts}
-use Rattle.tables.specs.declared.Step.{Step}
-use Rattle.tables.specs.declared.Step.TheVariants as code
 use Rattle.tables.specs.Layout.{tab, Holds, Fine, Kept, moved_refused}
 use Rattle.tables.proofs.Tables.{kept_refl, kept_then}
 use Rattle.tables.proofs.Steps.{step_bad, step_line_lem, over_limits}
 use Rattle.tables.proofs.LineFields.{word_is, takes_none, takes_more, field_bad, field_some, fields_done, the, num_some, num_cut}
-use Rattle.slots.specs.declared.reader.Read.{Read}
-use Rattle.slots.specs.declared.reader.Read.TheVariants as read
 use Rattle.slots.specs.Machine.{may_be, ReadIs, read_bad, read_over, read_is}
 use Rattle.slots.specs.Slots.{ReadInto, ValueAt, SlotTook, TookSlot}
 use Rattle.slots.proofs.LimitLaws.{may_be_lem, within_fits}
+use Rattle.std.specs.Prelude.{Some, None, Result, Ok, Err}
+use Rattle.memory.specs.Refusals.{refusal_of}
+use Rattle.memory.specs.declared.refusals.Misread.{Misread}
+use Rattle.memory.specs.declared.refusals.Misread.TheVariants.{Malformed, OverLimit}
+use Rattle.memory.specs.declared.refusals.Refusal.{Refusal}
+use Rattle.memory.specs.declared.refusals.Refusal.TheVariants.{BadLine, OverMeasure}
 
 -- ---- the fields
 
@@ -67,19 +68,19 @@ module _ {line : Bytes} {f : Fields} (cut : Cut line f) (letter : is (get_or (fi
     long : length (fields_of line) ≡ 4
     long = counted_exact cut (omega arith) ∙ four
 
-    pub fields_object : {r : _} → r ≡ cut_num (a_number x) → r ≡ num.Bad → line_of (fields_of line) ≡ none
-    fields_object e h = value_fields_lem (fields_of line) letter ∙ field_bad a_number _ (fields_of line) 1 (omega (arith, long)) (rw (← at1) (num_bad (a_number x) (sym h ∙ e)))
+    pub fields_object : None ≡ cut_num (a_number x) → line_of (fields_of line) ≡ none
+    fields_object h = value_fields_lem (fields_of line) letter ∙ field_bad a_number _ (fields_of line) 1 (omega (arith, long)) (rw (← at1) (num_bad (a_number x) h))
 
-    module _ {r1 : _} {o : ℕ} (read1 : r1 ≡ cut_num (a_number x)) (is1 : r1 ≡ num.Is o) {y : Bytes} (at2 : y ≡ get_or (fields_of line) 2 []) where
+    module _ {o : ℕ} (read1 : Some o ≡ cut_num (a_number x)) {y : Bytes} (at2 : y ≡ get_or (fields_of line) 2 []) where
       object : line_of (fields_of line) ≡ next a_number (λ a. next read_value (λ v. done (value_line (the (a_number x)) a v))) (drop 2 (fields_of line))
-      object = value_fields_lem (fields_of line) letter ∙ field_some a_number _ (fields_of line) 1 (omega (arith, long)) (rw (← at1) (num_some (a_number x) (sym is1 ∙ read1)))
+      object = value_fields_lem (fields_of line) letter ∙ field_some a_number _ (fields_of line) 1 (omega (arith, long)) (rw (← at1) (num_some (a_number x) read1))
 
-      pub fields_row : {r : _} → r ≡ cut_num (a_number y) → r ≡ num.Bad → line_of (fields_of line) ≡ none
-      fields_row e h = object ∙ field_bad a_number _ (fields_of line) 2 (omega (arith, long)) (rw (← at2) (num_bad (a_number y) (sym h ∙ e)))
+      pub fields_row : None ≡ cut_num (a_number y) → line_of (fields_of line) ≡ none
+      fields_row h = object ∙ field_bad a_number _ (fields_of line) 2 (omega (arith, long)) (rw (← at2) (num_bad (a_number y) h))
 
-      module _ {r2 : _} {a : ℕ} (read2 : r2 ≡ cut_num (a_number y)) (is2 : r2 ≡ num.Is a) {z : Bytes} (at3 : z ≡ get_or (fields_of line) 3 []) where
+      module _ {a : ℕ} (read2 : Some a ≡ cut_num (a_number y)) {z : Bytes} (at3 : z ≡ get_or (fields_of line) 3 []) where
         row : line_of (fields_of line) ≡ next read_value (λ v. done (value_line (the (a_number x)) (the (a_number y)) v)) (drop 3 (fields_of line))
-        row = object ∙ field_some a_number _ (fields_of line) 2 (omega (arith, long)) (rw (← at2) (num_some (a_number y) (sym is2 ∙ read2)))
+        row = object ∙ field_some a_number _ (fields_of line) 2 (omega (arith, long)) (rw (← at2) (num_some (a_number y) read2))
 
         pub fields_value : read_value z ≡ none → line_of (fields_of line) ≡ none
         fields_value h = row ∙ field_bad read_value _ (fields_of line) 3 (omega (arith, long)) (rw (← at3) h)
@@ -90,10 +91,10 @@ module _ {line : Bytes} {f : Fields} (cut : Cut line f) (letter : is (get_or (fi
             ∙ fields_done (value_line (the (a_number x)) (the (a_number y)) v) (fields_of line) 4 (omega (arith, long))
 
         pub object_cut : o ≡ min (the (a_number x)) 1000000
-        object_cut = num_cut (a_number x) (sym is1 ∙ read1)
+        object_cut = num_cut (a_number x) read1
 
         pub row_cut : a ≡ min (the (a_number y)) 1000000
-        row_cut = num_cut (a_number y) (sym is2 ∙ read2)
+        row_cut = num_cut (a_number y) read2
 
 -- ---- the words after the value is read
 
@@ -157,7 +158,7 @@ module _ {st : Counts} {n : ℕ} (A B : List ℕ) (front : take (memory.cells + 
         current = h.current;
       }
 
-module _ {st : Counts} {f : Bytes} {n : ℕ} {A B : List ℕ} {r : Read} (got : ReadInto f n B A r) (count : n ≡ st.cells) (same : length A ≡ length B) (room : 8192 ≤ length B) (fine : Fine st) where
+module _ {st : Counts} {f : Bytes} {n : ℕ} {A B : List ℕ} {r : Result ℕ Misread} (got : ReadInto f n B A r) (count : n ≡ st.cells) (same : length A ≡ length B) (room : 8192 ≤ length B) (fine : Fine st) where
   pub kept_read : Kept B A
   kept_read = kept_behind A B got.front got.back count same room fine
 
@@ -169,13 +170,13 @@ module _ {st : Counts} {f : Bytes} {n : ℕ} {A B : List ℕ} {r : Read} (got : 
 wide : (A : List ℕ) (n : ℕ) → 8192 ≤ length A → n ≤ 2048 → length (slice (memory.cells + n) memory.cells_end A) ≡ 2048 - n
 wide A n room h = length-slice (memory.cells + n) memory.cells_end A (omega arith) ∙ omega arith
 
-pub bad_value : {f : Bytes} {A : List ℕ} → ReadIs f A read.Bad → read_value f ≡ none
+bad_value : {f : Bytes} {A : List ℕ} → ReadIs f A (Err Malformed) → read_value f ≡ none
 bad_value (read_bad e) = e
 
-pub read_sizes : {st : Counts} {f : Bytes} {n i : ℕ} {A B : List ℕ} → n ≡ st.cells → length A ≡ length B → 8192 ≤ length B → Fine st → ReadInto f n B A (read.Is i) → (0 < i) × (st.cells + i ≤ 2048)
+pub read_sizes : {st : Counts} {f : Bytes} {n i : ℕ} {A B : List ℕ} → n ≡ st.cells → length A ≡ length B → 8192 ≤ length B → Fine st → ReadInto f n B A (Ok i) → (0 < i) × (st.cells + i ≤ 2048)
 read_sizes {st} {f} {n} {i} {A} {B} count same room fine got = go got.is
   where
-    go : ReadIs f (slice (memory.cells + n) memory.cells_end A) (read.Is i) → (0 < i) × (st.cells + i ≤ 2048)
+    go : ReadIs f (slice (memory.cells + n) memory.cells_end A) (Ok i) → (0 < i) × (st.cells + i ≤ 2048)
     go (read_is v e m z t) =
         let y = may_be_lem (length (slice (memory.cells + n) memory.cells_end A)) v (rw m tt) in
         let l = y.fits in
@@ -183,11 +184,11 @@ read_sizes {st} {f} {n} {i} {A} {B} count same room fine got = go got.is
         (omega (arith, some_cells v, size_law v), omega (arith, wide A n (omega arith) (omega arith)))
 
 module _ {st : Counts} {k : ℕ} {line : Bytes} (w1 : List ℕ) where
-  pub unspelled : {w0 v0 : List ℕ} → Kept w0 v0 → line_of (fields_of line) ≡ none → TookSlot st k line (code.Refused 3) w0 w1 v0 w1
+  pub unspelled : {w0 v0 : List ℕ} → Kept w0 v0 → line_of (fields_of line) ≡ none → TookSlot st k line (Err BadLine) w0 w1 v0 w1
   unspelled kept h = record { is = λ s g m. rw (step_bad s k (fields_of line) h) moved_refused; kept0 = kept; kept1 = kept_refl w1 }
 
   module _ (o a : ℕ) {f : Bytes} {n : ℕ} {A B : List ℕ} (spelled : (v : Value) → read_value f ≡ some v → line_of (fields_of line) ≡ some (value_line o a v)) (count : n ≡ st.cells) (same : length A ≡ length B) (room : 8192 ≤ length B) (fine : Fine st) where
-    pub line_over : ReadInto f n B A read.Over → TookSlot st k line (code.Refused 4) B w1 A w1
+    line_over : ReadInto f n B A (Err OverLimit) → TookSlot st k line (Err OverMeasure) B w1 A w1
     unfolding within_limits may_be
     line_over got = go got.is
       where
@@ -206,14 +207,18 @@ module _ {st : Counts} {k : ℕ} {line : Bytes} (w1 : List ℕ) where
         never s v h m =
             test_fails (within_limits s (value_line o a v)) (λ t. clash (sym m ∙ sure s v h t))
 
-        go : ReadIs f (slice (memory.cells + n) memory.cells_end A) read.Over → TookSlot st k line (code.Refused 4) B w1 A w1
+        go : ReadIs f (slice (memory.cells + n) memory.cells_end A) (Err OverLimit) → TookSlot st k line (Err OverMeasure) B w1 A w1
         go (read_over v e m) = record {
           is = λ s h q. rw (step_line_lem s k (fields_of line) (value_plain o a v) (spelled v e), over_limits s k (value_line o a v) (never s v h m)) moved_refused;
           kept0 = kept_read got count same room fine;
           kept1 = kept_refl w1;
         }
 
-    pub line_put : {i p q : ℕ} {r : Step} {C : List ℕ} → ReadInto f n B A (read.Is i) → SlotTook st k p q i r A w1 C → p ≡ min o 1000000 → q ≡ min a 1000000 → TookSlot st k line r B w1 C w1
+    pub line_misread : {m : Misread} → (read_value f ≡ none → line_of (fields_of line) ≡ none) → ReadInto f n B A (Err m) → TookSlot st k line (Err (refusal_of m)) B w1 A w1
+    line_misread {m = Malformed} off got = unspelled (kept_read got count same room fine) (off (bad_value got.is))
+    line_misread {m = OverLimit} off got = line_over got
+
+    pub line_put : {i p q : ℕ} {r : Result Counts Refusal} {C : List ℕ} → ReadInto f n B A (Ok i) → SlotTook st k p q i r A w1 C → p ≡ min o 1000000 → q ≡ min a 1000000 → TookSlot st k line r B w1 C w1
     unfolding may_be
     line_put {i} {p} {q} {r} {C} got took po qa = go got.is
       where
@@ -228,7 +233,7 @@ module _ {st : Counts} {k : ℕ} {line : Bytes} (w1 : List ℕ) where
             ∙ ap (λ (j : ℕ). take i (slice (memory.cells + j) memory.cells_end A)) (sym count)
             ∙ t
 
-        go : ReadIs f (slice (memory.cells + n) memory.cells_end A) (read.Is i) → TookSlot st k line r B w1 C w1
+        go : ReadIs f (slice (memory.cells + n) memory.cells_end A) (Ok i) → TookSlot st k line r B w1 C w1
         go (read_is v e m z t) =
             let y = may_be_lem (length (slice (memory.cells + n) memory.cells_end A)) v (rw m tt) in
             let d = read_sizes count same room fine got in

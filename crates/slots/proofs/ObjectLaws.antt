@@ -1,14 +1,14 @@
--- The loop over a value's cells that asks for its objects. Assumes nothing.
-use mathlib.Core.Path.{◌≡◌, refl, sym, ap, ◌∙◌}
-use mathlib.Core.Bool.{Bool, true, false, ◌&&◌, and-true}
+-- The objects in a value, asked for cell by cell. Assumes nothing.
+use mathlib.Core.Path.{◌≡◌, refl, ap, ◌∙◌}
+use mathlib.Core.Bool.{Bool, true, ◌&&◌, and-true}
 use mathlib.Core.List.{List}
-use Prim.Native.Nat.{ℕ, ◌+◌, ◌-◌, ◌<◌, ◌≤◌}
+use Prim.Native.Nat.{ℕ, ◌-◌, ◌<◌, ◌≤◌}
 use native.Mathlib.Omega.{arith}
-use lib.ListN.{length, get_or, drop, drop_of_length-le}
+use Rattle.std.specs.List.{list_all}
+use Rattle.std.proofs.lemmas.List.Recursion.{same_from_clauses}
 use lib.Dec.{T, ltb}
 use borrow.Author.Tests.{lt-ltb, le-ltb, le-leb, lt-leb}
 use Rattle.laws.specs.Lists.{all_of}
-use Rattle.laws.proofs.Parts.{at_next}
 use Rattle.laws.proofs.Elements.{all_append}
 use Rattle.ocl.specs.Values.{Value, num, bool, obj, coll, Values, sort, every_part, every_parts}
 use Rattle.reals.specs.Reals.{Number, kept}
@@ -56,17 +56,14 @@ mutual
   knowns_law n fit_nil = refl
   knowns_law n (fit_cons {v} {vs} f fs) = all_append (cell_known n) (enc v) (encs vs) ∙ rw (known_law n f, knowns_law n fs)
 
--- ---- the loop
+-- ---- what the chain of `all_known` answers
 
-module _ (cells : List ℕ) (n i : ℕ) (inv : all_of (cell_known n) (drop i cells) ≡ all_of (cell_known n) cells) where
-  pub known_not : {r : Bool} → i < length cells → r ≡ cell_known n (get_or cells i 0) → r ≡ false → KnownIs cells n false
-  unfolding all_of
-  known_not h e z = record { is = λ v f d. sym (sym (known_law n f) ∙ ap (all_of (cell_known n)) (sym d) ∙ sym inv ∙ rw (at_next 0 cells i h, ← e, z)) }
-
-  pub known_again : {r : Bool} → i < length cells → r ≡ cell_known n (get_or cells i 0) → r ≡ true → all_of (cell_known n) (drop (i + 1) cells) ≡ all_of (cell_known n) cells
-  unfolding all_of
-  known_again h e z = sym (ap (all_of (cell_known n)) (at_next 0 cells i h) ∙ rw (← e, z)) ∙ inv
-
-  pub known_all : length cells ≤ i → KnownIs cells n true
-  unfolding all_of
-  known_all h = record { is = λ v f d. sym (sym (known_law n f) ∙ ap (all_of (cell_known n)) (sym d) ∙ sym inv ∙ rw (drop_of_length-le cells h)) }
+pub known_all : (n : ℕ) (cells : List ℕ) {r : Bool} → r ≡ list_all (cell_known n) cells → KnownIs cells n r
+unfolding all_of
+known_all n cells e = record {
+  is = λ v f d.
+      e
+      ∙ same_from_clauses (list_all (cell_known n)) (all_of (cell_known n)) (λ x b. cell_known n x && b) refl (λ _ _. refl) (λ _ _. refl) cells
+      ∙ ap (all_of (cell_known n)) d
+      ∙ known_law n f;
+}

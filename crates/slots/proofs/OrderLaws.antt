@@ -6,15 +6,17 @@ use Prim.Native.Nat.{ℕ, ◌+◌, ◌-◌, ◌<◌, ◌≤◌, Ordering as Comp
 use native.Mathlib.Omega.{arith}
 use lib.ListN.{length, get_or}
 use lib.Seq.{slice, slice-cons, length-slice, take-length}
-use lib.Dec.{eqb, ltb}
+use lib.Dec.{eqb}
 use Rattle.std.specs.Prelude.{if◌then◌else◌}
-use borrow.Author.Tests.{ne_eqb}
+use Rattle.std.specs.declared.cmp.Ordering.{Ordering as Library}
+use Rattle.std.specs.declared.cmp.Ordering.TheVariants.{Greater}
+use Rattle.std.specs.Ordering.{is_lt, is_le}
 use Rattle.laws.proofs.Slices.{split_left, split_right}
 use Rattle.ocl.specs.Types.{Kind, set, sequence, bag}
 use Rattle.ocl.specs.Values.{Value, bool, num, obj, coll, Values, nil, cons, sort, members, order}
 use Rattle.reals.specs.Reals.{is_less}
 use Rattle.sheet.specs.Refusals.{may_follow, followed, ordered, all_ordered}
-use Rattle.values.specs.Cells.{head, enc, encs, Fits, AllFit, fit_nil, fit_cons, lex, code}
+use Rattle.values.specs.Cells.{head, enc, encs, Fits, AllFit, fit_nil, fit_cons, lex, ordering}
 use Rattle.values.specs.Meanings.{SortOf, Skips}
 use Rattle.values.proofs.Heads.{enc_parts, members_fit}
 use Rattle.values.proofs.Encoding.{order_law}
@@ -25,8 +27,8 @@ use Rattle.slots.specs.Order.{follows, row, members_in_order, RowAt, OrderIs}
 
 -- ---- rows make the whole
 
-follows_kind : (k : Kind) (vs : Values) (o : Compared) → follows (sort (coll k vs)) (code o) ≡ may_follow k o
-unfolding follows sort code may_follow is_less
+follows_kind : (k : Kind) (vs : Values) (o : Compared) → follows (sort (coll k vs)) (ordering o) ≡ may_follow k o
+unfolding follows sort ordering may_follow is_less
 follows_kind set vs Compared.lt = refl
 follows_kind set vs Compared.eq = refl
 follows_kind set vs Compared.gt = refl
@@ -56,7 +58,7 @@ coll_ordered k us (cons v nil) = plain (ordered v)
     plain false = refl
 coll_ordered k us (cons v (cons w ws)) =
     ap (λ (b : Bool). ordered v && may_follow k (order v w) && b) (coll_ordered k us (cons w ws))
-    ∙ rw (← follows_kind k us (order v w)) (three (ordered v) (follows (sort (coll k us)) (code (order v w))) (row (sort (coll k us)) (cons w ws)) (each_ordered (cons w ws)))
+    ∙ rw (← follows_kind k us (order v w)) (three (ordered v) (follows (sort (coll k us)) (ordering (order v w))) (row (sort (coll k us)) (cons w ws)) (each_ordered (cons w ws)))
 
 -- a value is ordered where its own members are in a row, and each of them is ordered
 ordered_law : (v : Value) → ordered v ≡ members_in_order v && each_ordered (members v)
@@ -84,22 +86,22 @@ glue_fits (fit_cons f fs) g = fit_cons f (glue_fits fs g)
 -- ---- a value's own members: the loop of `in_row`
 
 -- where a greater member may come first, each may follow each
-free_follows : (t c : ℕ) → follows t 2 ≡ true → follows t c ≡ true
+free_follows : (t : ℕ) (c : Library) → follows t Greater ≡ true → follows t c ≡ true
 unfolding follows
 free_follows t c e = go (eqb t 3) (eqb t 5) e
   where
-    go : (a b : Bool) → (if a then eqb 2 0 else if b then ltb 2 2 else true) ≡ true → (if a then eqb c 0 else if b then ltb c 2 else true) ≡ true
+    go : (a b : Bool) → (if a then is_lt Greater else if b then is_le Greater else true) ≡ true → (if a then is_lt c else if b then is_le c else true) ≡ true
     go true b h = absurd (let z : ◌≡◌ {A = ℕ} 0 1 = cc in omega arith)
     go false true h = absurd (let z : ◌≡◌ {A = ℕ} 0 1 = cc in omega arith)
     go false false h = refl
 
-free_row : (t : ℕ) → follows t 2 ≡ true → (vs : Values) → row t vs ≡ true
+free_row : (t : ℕ) → follows t Greater ≡ true → (vs : Values) → row t vs ≡ true
 unfolding row
 free_row t e nil = refl
 free_row t e (cons v nil) = refl
-free_row t e (cons v (cons w ws)) = rw (free_follows t (code (order v w)) e, free_row t e (cons w ws))
+free_row t e (cons v (cons w ws)) = rw (free_follows t (ordering (order v w)) e, free_row t e (cons w ws))
 
-pub row_free : {S : List ℕ} {p t : ℕ} {b : Bool} → p < length S → SortOf (get_or S p 0) t → b ≡ follows t 2 → b ≡ true → RowAt S p true
+pub row_free : {S : List ℕ} {p t : ℕ} {b : Bool} → p < length S → SortOf (get_or S p 0) t → b ≡ follows t Greater → b ≡ true → RowAt S p true
 unfolding members_in_order
 row_free {S} {p} {t} h so got z = record { is = λ v y f e. told v y f e }
   where
@@ -149,8 +151,8 @@ module _ {S : List ℕ} {p t end q r : ℕ} (F : Rowing S p t end q) (h : q < en
         sym (G.same ∙ rw (N.are, none_left N.left z));
   }
 
-  module _ {m c : ℕ} {b : Bool} (l : (r ≡ end → ⊥)) (j : Skips r end S m)
-      (cmp : c ≡ code (lex (slice q (q + (r - q)) S) (slice r (r + (m - r)) S))) (got : b ≡ follows t c) where
+  module _ {m : ℕ} {c : Library} {b : Bool} (l : (r ≡ end → ⊥)) (j : Skips r end S m)
+      (cmp : c ≡ ordering (lex (slice q (q + (r - q)) S) (slice r (r + (m - r)) S))) (got : b ≡ follows t c) where
     record Two (v : Value) : Type 0 where
       w : Value
       ws : Values
@@ -163,7 +165,7 @@ module _ {S : List ℕ} {p t end q r : ℕ} (F : Rowing S p t end q) (h : q < en
         let G = F.going v y f e in
         let N = next_member F.room h k G.left in
         let M = next_member F.room (let x = k.within in omega arith) j N.left in
-        let z : c ≡ code (order N.w M.w) = cmp ∙ rw (N.cells, M.cells) (ap code (order_law N.fits M.fits)) in
+        let z : c ≡ ordering (order N.w M.w) = cmp ∙ rw (N.cells, M.cells) (ap ordering (order_law N.fits M.fits)) in
         record {
           w = N.w;
           ws = N.ws;
@@ -234,18 +236,3 @@ module _ {S : List ℕ} {p : ℕ} (F : Ordering S p) where
       within = omega arith;
       going = λ v f e. let T = turned v f e in record { rest = glue (members T.w) T.ws; left = T.left; same = T.same ∙ ap (λ (a : Bool). a && each_ordered (glue (members T.w) T.ws)) z };
     }
-
--- ---- one pair of members
-
-module _ {s : ℕ} (c : ℕ) where
-  pub follows_set : s ≡ 3 → eqb c 0 ≡ follows s c
-  unfolding follows
-  follows_set e = rw e
-
-  pub follows_bag : s ≡ 5 → ltb c 2 ≡ follows s c
-  unfolding follows
-  follows_bag e = rw e
-
-  pub follows_any : (s ≡ 3 → ⊥) → (s ≡ 5 → ⊥) → true ≡ follows s c
-  unfolding follows
-  follows_any p q = rw (ne_eqb s 3 p, ne_eqb s 5 q)

@@ -21,12 +21,13 @@ use Rattle.sheet.specs.Refusals.{object_below, in_order, parts_known, calls_smal
 use Rattle.sheet.proofs.SlotSizes.{size_more}
 use Rattle.values.specs.Cells.{enc}
 use Rattle.tables.specs.declared.Counts.{Counts}
-use Rattle.tables.specs.declared.Step.TheVariants.{Next, Refused}
 use Rattle.tables.specs.Layout.{tab, slot_key, starts_from, cells_of, Holds, Fine, Kept, moved_next, moved_refused}
 use Rattle.tables.proofs.Tables.{kept_refl, kept_set, kept_then}
 use Rattle.tables.proofs.Entries.{definitions_same, holds_kept, spare_key, spare_start, tab_next, tab_more_of, open_kept}
 use Rattle.tables.proofs.Steps.{over_limits, out_of_order, unknown_part, not_suited, steps_on}
 use Rattle.slots.specs.Slots.{SmallRows, ValueAt, SlotAnswer, slot_counts, SlotTook}
+use Rattle.std.specs.Prelude.{Ok, Err}
+use Rattle.memory.specs.declared.refusals.Refusal.TheVariants.{OutOfRow, OverMeasure, UnknownPart, WrongThread}
 
 -- ---- the tables with one slot more
 
@@ -139,7 +140,7 @@ unfolding parts_known
 known_row st {s = s} o a v g e = let l = ltb-true a (length s.rows) (second (ltb o (length s.objects)) _ (every_part (object_below (length s.objects)) v) e) in let z = g.counted.rows in omega arith
 
 module _ (st : Counts) (k : ℕ) {o a n : ℕ} (w0 w1 : List ℕ) where
-  pub slot_big_object : 96 ≤ o → SlotTook st k o a n (Refused 4) w0 w1 w0
+  pub slot_big_object : 96 ≤ o → SlotTook st k o a n (Err OverMeasure) w0 w1 w0
   unfolding within_limits
   slot_big_object h = record {
     is = λ s p q v g m at e w eo ea. rw (over_limits s k (value_line p q v) (rw (le-ltb p 96 (omega arith)))) moved_refused;
@@ -147,7 +148,7 @@ module _ (st : Counts) (k : ℕ) {o a n : ℕ} (w0 w1 : List ℕ) where
   }
 
   module _ (object : o < 96) where
-    pub slot_big_row : 64 ≤ a → SlotTook st k o a n (Refused 4) w0 w1 w0
+    pub slot_big_row : 64 ≤ a → SlotTook st k o a n (Err OverMeasure) w0 w1 w0
     unfolding within_limits
     slot_big_row h = record {
       is = λ s p q v g m at e w eo ea. rw (over_limits s k (value_line p q v) (rw (lt-ltb p 96 (omega arith), le-ltb q 64 (omega arith)))) moved_refused;
@@ -155,7 +156,7 @@ module _ (st : Counts) (k : ℕ) {o a n : ℕ} (w0 w1 : List ℕ) where
     }
 
     module _ (row : a < 64) where
-      pub slot_full : 1024 ≤ st.slots → SlotTook st k o a n (Refused 4) w0 w1 w0
+      pub slot_full : 1024 ≤ st.slots → SlotTook st k o a n (Err OverMeasure) w0 w1 w0
       unfolding within_limits
       slot_full h = record {
         is = λ s p q v g m at e w eo ea.
@@ -170,7 +171,7 @@ module _ (st : Counts) (k : ℕ) {o a n : ℕ} (w0 w1 : List ℕ) where
             rw (lt-ltb o 96 object, lt-ltb a 64 row, w, lt-ltb (length s.slots) 1024 (let z = g.counted.slots in omega arith), le-leb (total_size s.slots + size v) 2048 (let z = g.counted.cells in omega arith))
 
         module _ {b : Bool} (order : SlotAnswer in_order st w0 o a n b) where
-          pub slot_disorder : b ≡ false → SlotTook st k o a n (Refused 5) w0 w1 w0
+          pub slot_disorder : b ≡ false → SlotTook st k o a n (Err OutOfRow) w0 w1 w0
           slot_disorder z = record {
             is = λ s p q v g m at e w eo ea.
                 rw (same_number eo object, same_row ea row) (rw (out_of_order s k (value_line o a v) (within s v g e w) (sym (order.is w1 s v g m at) ∙ z)) moved_refused);
@@ -178,7 +179,7 @@ module _ (st : Counts) (k : ℕ) {o a n : ℕ} (w0 w1 : List ℕ) where
           }
 
           module _ (sorted : b ≡ true) {c : Bool} (known : SlotAnswer parts_known st w0 o a n c) where
-            pub slot_unknown : c ≡ false → SlotTook st k o a n (Refused 6) w0 w1 w0
+            pub slot_unknown : c ≡ false → SlotTook st k o a n (Err UnknownPart) w0 w1 w0
             slot_unknown z = record {
               is = λ s p q v g m at e w eo ea.
                   rw (same_number eo object, same_row ea row) (rw (unknown_part s k (value_line o a v) (within s v g e w) (sym (order.is w1 s v g m at) ∙ sorted) (sym (known.is w1 s v g m at) ∙ z)) moved_refused);
@@ -189,7 +190,7 @@ module _ (st : Counts) (k : ℕ) {o a n : ℕ} (w0 w1 : List ℕ) where
               a_row : {s : Sheet} (v : Value) → Holds st w0 w1 s → SmallRows s → ValueAt st w0 n v → a < st.rows
               a_row {s} v g m at = known_row st o a v g (sym (known.is w1 s v g m at) ∙ there)
 
-              pub slot_unsuited : d ≡ false → SlotTook st k o a n (Refused 7) w0 w1 w0
+              pub slot_unsuited : d ≡ false → SlotTook st k o a n (Err WrongThread) w0 w1 w0
               unfolding calls_smaller calls_known
               slot_unsuited z = record {
                 is = λ s p q v g m at e w eo ea.
@@ -198,7 +199,7 @@ module _ (st : Counts) (k : ℕ) {o a n : ℕ} (w0 w1 : List ℕ) where
               }
 
               pub slot_taken : (room : 8192 ≤ length w0) (fine : Fine st) {v0 : List ℕ} {su : Counts} → d ≡ true → su ≡ slot_counts st n
-                  → v0 ≡ set (set w0 (memory.keys + st.slots) (o * 64 + a)) (memory.starts + st.slots) st.cells → SlotTook st k o a n (Next su) w0 w1 v0
+                  → v0 ≡ set (set w0 (memory.keys + st.slots) (o * 64 + a)) (memory.starts + st.slots) st.cells → SlotTook st k o a n (Ok su) w0 w1 v0
               unfolding calls_smaller calls_known tree_holds
               slot_taken room fine z ce ve = rw (ce, ve) (record {
                 is = λ s p q v g m at e w eo ea.

@@ -28,12 +28,13 @@ use Rattle.tables.specs.declared.Counts.{Counts}
 use Rattle.tables.specs.Layout.{tab, slot_key, Holds, Fine}
 use Rattle.tables.proofs.Tables.{tab_length, tab_at, parents_held}
 use Rattle.tables.proofs.Entries.{tab_next}
-use Rattle.slots.specs.declared.reader.Read.{Read}
 use Rattle.slots.specs.Machine.{ReadIs}
 use Rattle.slots.specs.Order.{OrderIs}
 use Rattle.slots.specs.Objects.{KnownIs}
 use Rattle.slots.specs.Suits.{Seen, ObjectSuits, BelongsAt}
 use Rattle.slots.specs.Slots.{SmallRows, ReadInto, last_before, ValueAt, SlotAnswer}
+use Rattle.std.specs.Prelude.{Result}
+use Rattle.memory.specs.declared.refusals.Misread.{Misread}
 
 -- ---- the cells behind the first n
 
@@ -46,7 +47,7 @@ module _ (f : Bytes) (n : ℕ) (B ys : List ℕ) (h : n ≤ 2048) (room : 8192 �
       ∙ ap (drop (memory.cells + n)) (take_at (take (memory.cells + n) B ++ ys) (post_of (memory.cells + n) (memory.cells_end - (memory.cells + n)) B) memory.cells_end (omega arith))
       ∙ drop_at (take (memory.cells + n) B) ys (memory.cells + n) a
 
-  pub read_into : {r : Read} → ReadIs f ys r → ReadInto f n B (put_mid (memory.cells + n) (memory.cells_end - (memory.cells + n)) B ys) r
+  pub read_into : {r : Result ℕ Misread} → ReadIs f ys r → ReadInto f n B (put_mid (memory.cells + n) (memory.cells_end - (memory.cells + n)) B ys) r
   read_into is = record {
     front = take_put (memory.cells + n) (memory.cells_end - (memory.cells + n)) B ys (omega arith);
     back = drop_put (memory.cells + n) memory.cells_end B ys (omega arith) (omega arith) long;

@@ -6,7 +6,8 @@ use Prim.Native.Nat.{ℕ, zero, suc, ◌+◌, ◌-◌, ◌<◌, ◌≤◌}
 use native.Mathlib.Omega.{arith}
 use lib.ListN.{length, get_or}
 use lib.Seq.{slice, slice-cons}
-use lib.Dec.{eqb}
+use lib.Dec.{eqb, leb}
+use borrow.Author.Tests.{lt-leb}
 use Rattle.laws.proofs.Slices.{split_right}
 use Rattle.ocl.specs.Types.{Kind, set, sequence, bag, kind_code, same_kind, Letter, collection, exactly, Ty, around, letter_subtype}
 use Rattle.ocl.specs.Values.{Value, bool, num, obj, coll, Values, sort, members}
@@ -52,9 +53,9 @@ any_letter l z (obj x) e = absurd (omega arith)
 any_letter l z (coll k vs) e = rw z
 
 module _ {letter cell t : ℕ} (so : SortOf cell t) where
-  pub letter_none : t < 3 → LetterSuits letter cell false
+  pub letter_none : t < 3 → LetterSuits letter cell (leb 3 t)
   unfolding kind_below sort
-  letter_none h = record { is = λ v f ce. go v (let q = so.is v f ce in omega arith) }
+  letter_none h = record { is = λ v f ce. lt-leb 3 t h ∙ go v (let q = so.is v f ce in omega arith) }
     where
       go : (v : Value) → sort v < 3 → false ≡ kind_below (letter_of letter) v
       go (bool x) e = refl

@@ -15,8 +15,6 @@ use Rattle.sheet.specs.Spelling.{read_value}
 use Rattle.values.specs.Cells.{enc}
 use Rattle.values.proofs.Encoding.{size_law}
 use Rattle.slots.specs.declared.reader.Open.{Open}
-use Rattle.slots.specs.declared.reader.Read.{Read}
-use Rattle.slots.specs.declared.reader.Read.TheVariants as read
 use Rattle.slots.specs.declared.reader.Turn.{Turn}
 use Rattle.slots.specs.declared.reader.Turn.TheVariants as turn
 use Rattle.slots.specs.Machine.{Frame, grown, resume_read, among, start_read, enter, laid, head_at, outward, Tidy, InFront, Sure, Enough, Wanted, Joined, ValueEnd, Live, live_wanted, live_opened, live_joined, ReadIs, read_bad, read_over, read_is, TurnIs, turn_on, turn_stop, Raises, Last}
@@ -24,6 +22,9 @@ use Rattle.slots.proofs.MachineLaws.{start_end, enter_end, among_end, among_comm
 use Rattle.slots.proofs.LimitLaws.{may}
 use Rattle.slots.proofs.PartLaws.{from_byte}
 use Rattle.slots.proofs.CountLaws.{first_at, raise_may, closed_sure, closed_tidy, other_parts}
+use Rattle.std.specs.Prelude.{Result, Ok, Err}
+use Rattle.memory.specs.declared.refusals.Misread.{Misread}
+use Rattle.memory.specs.declared.refusals.Misread.TheVariants.{Malformed, OverLimit}
 
 -- ---- the field's end
 
@@ -33,7 +34,7 @@ alone v [] z l = l.laid
 alone v (x ∷ fs) z l = absurd (omega arith)
 
 module _ {f : Bytes} {at : ℕ} {o : Open} where
-  pub last_bad : at < length f → Last f at o read.Bad
+  pub last_bad : at < length f → Last f at o (Err Malformed)
   unfolding resume_read at_end
   last_bad h = record { is = λ cells e d. read_bad (e.same ∙ rw (at_next 0 f at h) (go _ _ _ e.frames (sym e.sure.depth ∙ d))) }
     where
@@ -49,13 +50,13 @@ module _ {f : Bytes} {at : ℕ} {o : Open} where
       go v [] z = refl
       go v (x ∷ fs) z = absurd (omega arith)
 
-  pub last_over : length f ≤ at → 128 < o.size → Last f at o read.Over
+  pub last_over : length f ≤ at → 128 < o.size → Last f at o (Err OverLimit)
   last_over h t = record { is = λ cells e d. read_over e.value (at_last e d h) ((e.sure.over t).is e.value (at_last e d h)) }
 
-  pub last_is : length f ≤ at → o.size ≤ 128 → Last f at o (read.Is o.size)
+  pub last_is : length f ≤ at → o.size ≤ 128 → Last f at o (Ok o.size)
   last_is h t = record { is = λ cells e d. made cells e d (e.sure.fine t) (e.tidy t) }
     where
-      made : (cells : List ℕ) (e : ValueEnd f cells at o) → o.depth ≡ 0 → InFront cells o e.frames (enc e.value) → Tidy e.value (length e.frames) → ReadIs f cells (read.Is o.size)
+      made : (cells : List ℕ) (e : ValueEnd f cells at o) → o.depth ≡ 0 → InFront cells o e.frames (enc e.value) → Tidy e.value (length e.frames) → ReadIs f cells (Ok o.size)
       made cells e d l y =
           let lies = alone e.value e.frames (sym e.sure.depth ∙ d) l in
           let n : o.size ≡ size e.value = sym (length-take-le o.size cells l.room) ∙ ap length lies ∙ size_law e.value in
@@ -198,7 +199,7 @@ turn_live (turn_on l x) = x
 pub turn_up : {f : Bytes} {B : List ℕ} {from at phase : ℕ} {o : Open} → TurnIs f B from (turn.On at phase o) → from ≤ at
 turn_up (turn_on l x) = l
 
-pub turn_read : {f : Bytes} {B : List ℕ} {from : ℕ} {r : Read} → TurnIs f B from (turn.Stop r) → ReadIs f B r
+pub turn_read : {f : Bytes} {B : List ℕ} {from : ℕ} {r : Result ℕ Misread} → TurnIs f B from (turn.Stop r) → ReadIs f B r
 turn_read (turn_stop x) = x
 
 pub live_within : {f : Bytes} {A : List ℕ} {at phase : ℕ} {o : Open} → Live f A at phase o → at ≤ length f

@@ -1,7 +1,7 @@
 -- Reading a value from left to right: what is left of the field is read into the collections that are open. What crates/sheet's
 -- `read_value` gives of the whole field is, at each place, what `start_read`, `enter`, `among` or `resume_read` gives of the rest
 -- (proofs/MachineLaws.antt).
-use Rattle.std.specs.Prelude.{◌≡◌, Bool, true, false, ◌&&◌, List, [], ◌∷◌, ◌++◌, ℕ, suc, ◌+◌, ◌-◌, ◌<◌, ◌≤◌, length, take, drop, eqb, leb}
+use Rattle.std.specs.Prelude.{◌≡◌, Bool, true, false, ◌&&◌, List, [], ◌∷◌, ◌++◌, ℕ, suc, ◌+◌, ◌-◌, ◌<◌, ◌≤◌, length, take, drop, eqb, leb, Result, Ok, Err}
 use Rattle.std.proofs.Math.Option.{Option, none, some}
 use Rattle.laws.specs.Choice.{on_some}
 use Rattle.std.specs.Prelude.{if◌then◌else◌}
@@ -13,10 +13,10 @@ use Rattle.sheet.specs.Spelling.{value_parser, members_parser, more_parser, read
 use Rattle.sheet.specs.Limits.{part_within, nesting, nestings, value_within as within_limits}
 use Rattle.values.specs.Cells.{head, enc}
 use Rattle.slots.specs.declared.reader.Open.{Open}
-use Rattle.slots.specs.declared.reader.Read.{Read}
-use Rattle.slots.specs.declared.reader.Read.TheVariants as read
 use Rattle.slots.specs.declared.reader.Turn.{Turn}
 use Rattle.slots.specs.declared.reader.Turn.TheVariants as turn
+use Rattle.memory.specs.declared.refusals.Misread.{Misread}
+use Rattle.memory.specs.declared.refusals.Misread.TheVariants.{Malformed, OverLimit}
 
 -- ---- the collections that are open, the inmost first
 
@@ -158,14 +158,14 @@ pub data Live (f : Bytes) (cells : List ℕ) (at phase : ℕ) (o : Open) : Type 
 -- ---- what the code answers
 
 -- the field spells no value, one that may not be put into the room, or one whose cells lie in front
-pub data ReadIs (f : Bytes) (cells : List ℕ) : Read → Type 0 where
-  read_bad : read_value f ≡ none → ReadIs f cells read.Bad
-  read_over : (v : Value) → read_value f ≡ some v → may_be (length cells) v ≡ false → ReadIs f cells read.Over
-  read_is : (v : Value) {n : ℕ} → read_value f ≡ some v → may_be (length cells) v ≡ true → n ≡ size v → take n cells ≡ enc v → ReadIs f cells (read.Is n)
+pub data ReadIs (f : Bytes) (cells : List ℕ) : Result ℕ Misread → Type 0 where
+  read_bad : read_value f ≡ none → ReadIs f cells (Err Malformed)
+  read_over : (v : Value) → read_value f ≡ some v → may_be (length cells) v ≡ false → ReadIs f cells (Err OverLimit)
+  read_is : (v : Value) {n : ℕ} → read_value f ≡ some v → may_be (length cells) v ≡ true → n ≡ size v → take n cells ≡ enc v → ReadIs f cells (Ok n)
 
 pub data TurnIs (f : Bytes) (cells : List ℕ) (from : ℕ) : Turn → Type 0 where
   turn_on : {at phase : ℕ} {o : Open} → from ≤ at → Live f cells at phase o → TurnIs f cells from (turn.On at phase o)
-  turn_stop : {r : Read} → ReadIs f cells r → TurnIs f cells from (turn.Stop r)
+  turn_stop : {r : Result ℕ Misread} → ReadIs f cells r → TurnIs f cells from (turn.Stop r)
 
 pub record AddsCell (cell : ℕ) (before : List ℕ) (o : Open) (after : List ℕ) (r : Open) : Type 0 where
   pub depth : r.depth ≡ o.depth
@@ -182,5 +182,5 @@ pub record Raises (before : List ℕ) (o : Open) (after : List ℕ) : Type 0 whe
   pub is : (f : Bytes) (x : Frame) (fs : List Frame) (u : Value) → (o.size ≤ largest → Tidy u (suc (length fs))) → Sure f before o (x ∷ fs) (enc u)
       → Sure f after o (grown x u ∷ fs) []
 
-pub record Last (f : Bytes) (at : ℕ) (o : Open) (r : Read) : Type 0 where
+pub record Last (f : Bytes) (at : ℕ) (o : Open) (r : Result ℕ Misread) : Type 0 where
   pub is : (cells : List ℕ) → ValueEnd f cells at o → o.depth ≡ 0 → ReadIs f cells r

@@ -1,6 +1,6 @@
 -- What a V line's code asks of the tables and promises. A slot's key is its object times 64 and its row, which tells the two
 -- apart only where rows are below 64: so the promise is for sheets whose rows are. Every sheet that is read is such: crates/sheet, proofs/Good.antt.
-use Rattle.std.specs.Prelude.{◌≡◌, Bool, true, List, ℕ, zero, suc, ◌+◌, ◌<◌, min, get_or, take, drop, ltb}
+use Rattle.std.specs.Prelude.{◌≡◌, Bool, true, List, ℕ, zero, suc, ◌+◌, ◌<◌, min, get_or, take, drop, ltb, Result}
 use Rattle.std.proofs.Math.Seq.{slice}
 use Rattle.laws.specs.Lists.{Each}
 use Rattle.memory.specs.Map as memory
@@ -14,17 +14,17 @@ use Rattle.sheet.specs.Limits.{value_within}
 use Rattle.sheet.specs.Reading.{step, step_line}
 use Rattle.values.specs.Cells.{enc, Fits}
 use Rattle.tables.specs.declared.Counts.{Counts}
-use Rattle.tables.specs.declared.Step.{Step}
 use Rattle.tables.specs.Layout.{Holds, Kept, Moved}
-use Rattle.slots.specs.declared.reader.Read.{Read}
 use Rattle.slots.specs.Machine.{ReadIs}
+use Rattle.memory.specs.declared.refusals.Misread.{Misread}
+use Rattle.memory.specs.declared.refusals.Refusal.{Refusal}
 
 -- each slot's row is below 64
 pub record SmallRows (s : Sheet) : Type 0 where
   pub rows : Each (λ (x : Slot). x.row < most_rows) s.slots
 
 -- the value of a field behind the first n cells; the words before them and after the cells are as they were
-pub record ReadInto (f : Bytes) (n : ℕ) (before after : List ℕ) (r : Read) : Type 0 where
+pub record ReadInto (f : Bytes) (n : ℕ) (before after : List ℕ) (r : Result ℕ Misread) : Type 0 where
   pub front : take (memory.cells + n) after ≡ take (memory.cells + n) before
   pub back : drop memory.cells_end after ≡ drop memory.cells_end before
   pub is : ReadIs f (slice (memory.cells + n) memory.cells_end after) r
@@ -62,13 +62,13 @@ slot_counts st n = record {
 }
 
 -- the line with the object o', the row a' and the value of n cells; the code has o' and a' as o and a, a million at most
-pub record SlotTook (st : Counts) (k o a n : ℕ) (r : Step) (w0 w1 v0 : List ℕ) : Type 0 where
+pub record SlotTook (st : Counts) (k o a n : ℕ) (r : Result Counts Refusal) (w0 w1 v0 : List ℕ) : Type 0 where
   pub is : (s : Sheet) (o' a' : ℕ) (v : Value) → Holds st w0 w1 s → SmallRows s → ValueAt st w0 n v → n ≡ size v → value_within v ≡ true
       → o ≡ min o' 1000000 → a ≡ min a' 1000000 → Moved v0 w1 r (step_line s k (value_line o' a' v))
   pub kept0 : Kept w0 v0
 
 -- as crates/tables' Took
-pub record TookSlot (st : Counts) (k : ℕ) (line : Bytes) (r : Step) (w0 w1 v0 v1 : List ℕ) : Type 0 where
+pub record TookSlot (st : Counts) (k : ℕ) (line : Bytes) (r : Result Counts Refusal) (w0 w1 v0 v1 : List ℕ) : Type 0 where
   pub is : (s : Sheet) → Holds st w0 w1 s → SmallRows s → Moved v0 v1 r (step s k (fields_of line))
   pub kept0 : Kept w0 v0
   pub kept1 : Kept w1 v1

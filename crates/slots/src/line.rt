@@ -12,17 +12,18 @@ ghost use Rattle.slots.specs.Slots.{last_before, ReadInto, SlotAnswer, slot_coun
 
 use crate::objects::all_known;
 use crate::order::in_order;
-use crate::reader::{Read, read_value};
+use crate::reader::read_value;
 use crate::suits::{belongs, object_suits};
 use memory::lines;
+use memory::refusals::{Misread, Refusal};
 use memory::words::{long, wide};
-use tables::{Counts, Step};
-use text::numbers::{Num, number};
+use tables::Counts;
+use text::numbers::number;
 use text::parts::{Fields, field};
 use types::word::unpack;
 
 // Reads the value of a field into the cells behind the first n.
-fn read_into(f: &[u8], w0: &mut [u64], n: usize) -> Read
+fn read_into(f: &[u8], w0: &mut [u64], n: usize) -> Result<usize, Misread>
     requires { (n ≤ most_cells) × (least_words ≤ length w0.old) }
     ensures { ReadInto f.now n w0.old w0.new result }
 {
@@ -35,45 +36,32 @@ fn after_last(w0: &[u64], n: usize, key: u64) -> bool
     requires { (n ≤ most_values) × (least_words ≤ length w0.now) }
     ensures { result ≡ last_before w0.now n key }
 {
-    if n == 0 {
-        return true;
-    }
-    w0[memory::KEYS + n - 1] < key
+    n == 0 || w0[memory::KEYS + n - 1] < key
 }
 
-// 5: blocks, slots and members are in order.
+// Whether blocks, slots and members are in order.
 fn slot_in_order(w0: &[u64], st: Counts, o: u64, a: u64, size: usize) -> bool
     requires { (least_words ≤ length w0.now) × Fine st × (o < most_objects) × (a < most_rows) × (st.cells + size ≤ most_cells) }
     ensures { SlotAnswer in_order st w0.now o a size result }
 {
-    if lines::VALUES < st.block {
-        return false;
-    }
-    if !after_last(w0, wide(st.slots), o * memory::MOST_ROWS + a) {
-        return false;
-    }
     let from = memory::CELLS + wide(st.cells);
     let to = from + size;
-    in_order(&w0[from..to])
+    st.block <= lines::VALUES
+        && after_last(w0, wide(st.slots), o * memory::MOST_ROWS + a)
+        && in_order(&w0[from..to])
 }
 
-// 6: the object, the row and the objects in the value are on the sheet.
+// Whether the object, the row and the objects in the value are on the sheet.
 fn slot_known(w0: &[u64], st: Counts, o: u64, a: u64, size: usize) -> bool
     requires { (least_words ≤ length w0.now) × Fine st × (st.cells + size ≤ most_cells) }
     ensures { SlotAnswer parts_known st w0.now o a size result }
 {
-    if st.objects <= o {
-        return false;
-    }
-    if st.rows <= a {
-        return false;
-    }
     let from = memory::CELLS + wide(st.cells);
     let to = from + size;
-    all_known(&w0[from..to], st.objects)
+    o < st.objects && a < st.rows && all_known(&w0[from..to], st.objects)
 }
 
-// 7: the object is of the row's class or below, and the value belongs to the row's type.
+// Whether the object is of the row's class or below, and the value belongs to the row's type.
 fn slot_suits(w0: &[u64], st: Counts, o: u64, a: u64, size: usize) -> bool
     requires { (least_words ≤ length w0.now) × Fine st × (a < most_rows) × (0 < size) × (st.cells + size ≤ most_cells) }
     ensures { a < st.rows → SlotAnswer suits st w0.now o a size result }
@@ -100,57 +88,50 @@ fn store_slot(w0: &mut [u64], st: Counts, key: u64, size: u64) -> Counts
     let n = wide(st.slots);
     w0[memory::KEYS + n] = key;
     w0[memory::STARTS + n] = st.cells;
-    let mut next = st;
-    next.block = lines::VALUES;
-    next.slots = st.slots + 1;
-    next.cells = st.cells + size;
-    next
+    Counts {
+        block: lines::VALUES,
+        slots: st.slots + 1,
+        cells: st.cells + size,
+        ..st
+    }
 }
 
-// Puts the slot, or refuses it with 4 to 7. Its value of `size` cells is written already, and within its limits.
-pub fn put_slot(w0: &mut [u64], st: Counts, o: u64, a: u64, size: usize) -> Step
+// Puts the slot, or refuses it. Its value of `size` cells is written already, and within its limits.
+pub fn put_slot(w0: &mut [u64], st: Counts, o: u64, a: u64, size: usize) -> Result<Counts, Refusal>
     requires { (least_words ≤ length w0.old) × Fine st × (0 < size) × (st.cells + size ≤ most_cells) }
     ensures { (w1 : List ℕ) (k : ℕ) → SlotTook st k o a size result w0.old w1 w0.new }
 {
     if memory::MOST_OBJECTS <= o {
-        return Step::Refused(4);
+        return Err(Refusal::OverMeasure);
     }
     if memory::MOST_ROWS <= a {
-        return Step::Refused(4);
+        return Err(Refusal::OverMeasure);
     }
     if memory::MOST_VALUES <= st.slots {
-        return Step::Refused(4);
+        return Err(Refusal::OverMeasure);
     }
     if !slot_in_order(w0, st, o, a, size) {
-        return Step::Refused(5);
+        return Err(Refusal::OutOfRow);
     }
     if !slot_known(w0, st, o, a, size) {
-        return Step::Refused(6);
+        return Err(Refusal::UnknownPart);
     }
     if !slot_suits(w0, st, o, a, size) {
-        return Step::Refused(7);
+        return Err(Refusal::WrongThread);
     }
-    Step::Next(store_slot(w0, st, o * memory::MOST_ROWS + a, long(size)))
+    Ok(store_slot(w0, st, o * memory::MOST_ROWS + a, long(size)))
 }
 
 // Takes a line whose first field is `V`.
-pub fn value_line(line: &[u8], f: Fields, w0: &mut [u64], st: Counts) -> Step
+pub fn value_line(line: &[u8], f: Fields, w0: &mut [u64], st: Counts) -> Result<Counts, Refusal>
     requires { Cut line.now f × (is (get_or (fields_of line.now) 0 []) (bytes "V") ≡ true) × (least_words ≤ length w0.old) × Fine st }
     ensures { (w1 : List ℕ) (k : ℕ) → TookSlot st k line.now result w0.old w1 w0.new w1 }
 {
     if f.count != 4 {
-        return Step::Refused(3);
+        return Err(Refusal::BadLine);
     }
-    let Num::Is(o) = number(field(line, f, 1)) else {
-        return Step::Refused(3);
-    };
-    let Num::Is(a) = number(field(line, f, 2)) else {
-        return Step::Refused(3);
-    };
-    let read = read_into(field(line, f, 3), w0, wide(st.cells));
-    match read {
-        Read::Bad => Step::Refused(3),
-        Read::Over => Step::Refused(4),
-        Read::Is { size } => put_slot(w0, st, o, a, size),
-    }
+    let o = number(field(line, f, 1)).ok_or(Refusal::BadLine)?;
+    let a = number(field(line, f, 2)).ok_or(Refusal::BadLine)?;
+    let size = read_into(field(line, f, 3), w0, wide(st.cells))?;
+    put_slot(w0, st, o, a, size)
 }

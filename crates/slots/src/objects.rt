@@ -8,25 +8,12 @@ use values::cells::{COLLECTIONS, OBJECTS};
 fn known(n: u64, cell: u64) -> bool
     ensures { result ≡ cell_known n cell }
 {
-    if cell < OBJECTS {
-        return true;
-    }
-    if COLLECTIONS <= cell {
-        return true;
-    }
-    cell - OBJECTS < n
+    cell < OBJECTS || COLLECTIONS <= cell || cell - OBJECTS < n
 }
 
 // Whether each object in the value is one of n objects.
 pub fn all_known(cells: &[u64], n: u64) -> bool
     ensures { KnownIs cells.now n result }
 {
-    let mut i: usize = 0;
-    while i < cells.len() {
-        if !known(n, cells[i]) {
-            return false;
-        }
-        i += 1;
-    }
-    true
+    cells.iter().all(|&cell| known(n, cell))
 }

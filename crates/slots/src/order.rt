@@ -3,20 +3,19 @@
 ghost use Rattle.std.specs.Prelude.{◌≡◌, ◌<◌, length};
 ghost use Rattle.slots.specs.Order.{follows, RowAt, OrderIs};
 
+use std::cmp::Ordering;
 use values::cells::{skip, sort_of};
 use values::order::compare;
 
-// Whether a member may follow another, by the collection's sort and their order: 0 less, 1 the same, 2 greater.
-fn may_follow(sort: u64, order: u64) -> bool
+// Whether a member may follow another, by the collection's sort and their order.
+fn may_follow(sort: u64, order: Ordering) -> bool
     ensures { result ≡ follows sort order }
 {
-    if sort == 3 {
-        return order == 0;
+    match sort {
+        3 => order.is_lt(),
+        5 => order.is_le(),
+        _ => true,
     }
-    if sort == 5 {
-        return order < 2;
-    }
-    true
 }
 
 // Whether the members of the value at p are in order, if it is a Set or a Bag.
@@ -25,7 +24,7 @@ fn in_row(cells: &[u64], p: usize) -> bool
     ensures { RowAt cells.now p result }
 {
     let sort = sort_of(cells[p]);
-    if may_follow(sort, 2) {
+    if may_follow(sort, Ordering::Greater) {
         return true; // no Set and no Bag: any member may follow any other
     }
     let end = skip(cells, p, cells.len());
@@ -48,12 +47,10 @@ fn in_row(cells: &[u64], p: usize) -> bool
 pub fn in_order(cells: &[u64]) -> bool
     ensures { OrderIs cells.now result }
 {
-    let mut p: usize = 0;
-    while p < cells.len() {
+    for p in 0..cells.len() {
         if !in_row(cells, p) {
             return false;
         }
-        p += 1;
     }
     true
 }

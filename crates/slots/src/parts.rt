@@ -5,55 +5,49 @@ ghost use Rattle.sheet.specs.Text.{integer_parser, real_parser};
 ghost use Rattle.slots.specs.Parts.{PartIs, ObjectIs, NumberIs, OpensIs, part_of};
 
 use floats::spelling::REAL_BYTES;
-use text::literals::{Literal, integer_literal, real_literal};
-use text::numbers::{Num, digits_at, integer_at, integer_digits, number_at};
+use memory::refusals::Misread;
+use text::literals::{integer_literal, real_literal};
+use text::numbers::{digits_at, integer_at, integer_digits, number_at};
 use values::cells::{OBJECTS, empty_of};
 
 // A part with its cell and the place after it; Wide is a number outside its limits.
 #[derive(Clone, Copy)]
 pub enum Part {
-    Bad,
     Simple { cell: u64, end: usize },
     Wide { end: usize },
     Opens { cell: u64, end: usize },
 }
 
 // The object whose digits begin at `at`.
-fn object_at(f: &[u8], at: usize) -> Part
+fn object_at(f: &[u8], at: usize) -> Option<Part>
     requires { at ≤ length f.now }
     ensures { ObjectIs f.now at result }
 {
     let d = digits_at(f, at);
-    let n = number_at(f, at, d);
+    let o = number_at(f, at, d)?;
     let end = d.end;
-    match n {
-        Num::Bad => Part::Bad,
-        Num::Is(o) => {
-            if o < memory::MOST_OBJECTS {
-                Part::Simple {
-                    cell: OBJECTS + o,
-                    end,
-                }
-            } else {
-                Part::Wide { end }
-            }
-        }
+    if o < memory::MOST_OBJECTS {
+        return Some(Part::Simple {
+            cell: OBJECTS + o,
+            end,
+        });
     }
+    Some(Part::Wide { end })
 }
 
 // A number as a part.
-fn number_part(n: Literal, end: usize) -> Part
+fn number_part(n: Result<u64, Misread>, end: usize) -> Option<Part>
     ensures { result ≡ part_of n end }
 {
     match n {
-        Literal::Bad => Part::Bad,
-        Literal::Over => Part::Wide { end },
-        Literal::Is(cell) => Part::Simple { cell, end },
+        Err(Misread::Malformed) => None,
+        Err(Misread::OverLimit) => Some(Part::Wide { end }),
+        Ok(cell) => Some(Part::Simple { cell, end }),
     }
 }
 
 // The Integer that begins at `at`.
-fn whole_at(f: &[u8], at: usize) -> Part
+fn whole_at(f: &[u8], at: usize) -> Option<Part>
     requires { at ≤ length f.now }
     ensures { NumberIs integer_parser int f.now at result }
 {
@@ -64,48 +58,46 @@ fn whole_at(f: &[u8], at: usize) -> Part
 }
 
 // The Real that begins at `at`.
-fn real_at(f: &[u8], at: usize) -> Part
+fn real_at(f: &[u8], at: usize) -> Option<Part>
     requires { at ≤ length f.now }
     ensures { NumberIs real_parser real f.now at result }
 {
     if f.len() - at < REAL_BYTES {
-        return Part::Bad;
+        return None;
     }
     let end = at + REAL_BYTES;
     number_part(real_literal(&f[at..end]), end)
 }
 
 // The collection whose letter stands at `at`, if a bracket follows.
-fn opens_at(f: &[u8], at: usize, kind: u64) -> Part
+fn opens_at(f: &[u8], at: usize, kind: u64) -> Option<Part>
     requires { (at < length f.now) × (kind < 3) }
     ensures { OpensIs f.now at kind result }
 {
     let next = at + 1;
-    if next < f.len() {
-        if f[next] == b'(' {
-            return Part::Opens {
-                cell: empty_of(kind),
-                end: next + 1,
-            };
-        }
+    if next < f.len() && f[next] == b'(' {
+        return Some(Part::Opens {
+            cell: empty_of(kind),
+            end: next + 1,
+        });
     }
-    Part::Bad
+    None
 }
 
 // The part that begins at `at`.
-pub fn part_at(f: &[u8], at: usize) -> Part
+pub fn part_at(f: &[u8], at: usize) -> Option<Part>
     requires { at < length f.now }
     ensures { PartIs f.now at result }
 {
     match f[at] {
-        b't' => Part::Simple {
+        b't' => Some(Part::Simple {
             cell: 1,
             end: at + 1,
-        },
-        b'f' => Part::Simple {
+        }),
+        b'f' => Some(Part::Simple {
             cell: 0,
             end: at + 1,
-        },
+        }),
         b'@' => object_at(f, at + 1),
         b'r' => real_at(f, at),
         b'S' => opens_at(f, at, 0),

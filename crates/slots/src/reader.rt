@@ -7,6 +7,7 @@ ghost use Rattle.ocl.specs.Values.{largest};
 ghost use Rattle.slots.specs.Machine.{head_at, outward, beyond, Last, AddsCell, OpensCell, Raises, Wanted, ValueEnd, Live, TurnIs, ReadIs};
 
 use crate::parts::{Part, part_at};
+use memory::refusals::Misread;
 use values::cells::LARGEST;
 
 // The size that stands for every value over a limit.
@@ -25,49 +26,34 @@ pub struct Open {
     pub third: usize,
 }
 
-// No value is spelled, or one over a limit, or one whose cells are written.
-#[derive(Clone, Copy)]
-pub enum Read {
-    Bad,
-    Over,
-    Is { size: usize },
-}
-
 // After a part: what comes at `at` is a value (phase 0), a value or a bracket (1), or a comma or a bracket (2).
 #[derive(Clone, Copy)]
 pub enum Turn {
     On { at: usize, phase: u64, open: Open },
-    Stop { read: Read },
+    Stop { read: Result<usize, Misread> },
 }
 
 // Where the cell of the inmost open collection is.
 fn header(o: Open) -> usize
     ensures { result ≡ head_at o o.depth }
 {
-    if o.depth == 1 {
-        return 0;
+    match o.depth {
+        1 => 0,
+        2 => o.second,
+        _ => o.third,
     }
-    if o.depth == 2 {
-        return o.second;
-    }
-    o.third
 }
 
 // Writes one more cell, if there is room and the value stays within its size.
 fn add_cell(cells: &mut [u64], o: Open, cell: u64) -> Open
     ensures { AddsCell cell cells.old o cells.new result }
 {
-    let mut r = o;
     let n = o.size;
-    if n < LARGEST {
-        if n < cells.len() {
-            cells[n] = cell;
-            r.size = n + 1;
-            return r;
-        }
+    if n < LARGEST && n < cells.len() {
+        cells[n] = cell;
+        return Open { size: n + 1, ..o };
     }
-    r.size = OVER;
-    r
+    Open { size: OVER, ..o }
 }
 
 fn pick(test: bool, x: usize, y: usize) -> usize
@@ -104,16 +90,16 @@ fn raise(cells: &mut [u64], o: Open)
 }
 
 // A value has ended at `at` with no collection open: the field must end there too.
-fn last(f: &[u8], at: usize, o: Open) -> Read
+fn last(f: &[u8], at: usize, o: Open) -> Result<usize, Misread>
     ensures { Last f.now at o result }
 {
     if at < f.len() {
-        return Read::Bad;
+        return Err(Misread::Malformed);
     }
     if LARGEST < o.size {
-        return Read::Over;
+        return Err(Misread::OverLimit);
     }
-    Read::Is { size: o.size }
+    Ok(o.size)
 }
 
 // A value ends at `at`.
@@ -139,18 +125,17 @@ fn closed(o: Open) -> Open
     requires { 0 < o.depth }
     ensures { result ≡ outward o }
 {
-    let mut r = o;
-    r.depth = o.depth - 1;
-    r
+    Open {
+        depth: o.depth - 1,
+        ..o
+    }
 }
 
 // The value is over a limit from here on.
 fn passed(o: Open) -> Open
     ensures { result ≡ beyond o }
 {
-    let mut r = o;
-    r.size = OVER;
-    r
+    Open { size: OVER, ..o }
 }
 
 // A value begins at `at`.
@@ -158,9 +143,12 @@ fn begin(f: &[u8], cells: &mut [u64], at: usize, o: Open) -> Turn
     requires { Wanted f.now cells.old at o × (at < length f.now) }
     ensures { TurnIs f.now cells.new (at + 1) result }
 {
-    let p = part_at(f, at);
+    let Some(p) = part_at(f, at) else {
+        return Turn::Stop {
+            read: Err(Misread::Malformed),
+        };
+    };
     match p {
-        Part::Bad => Turn::Stop { read: Read::Bad },
         Part::Simple { cell, end } => {
             let r = add_cell(cells, o, cell);
             ended(f, cells, end, r)
@@ -183,7 +171,9 @@ fn next_part(f: &[u8], cells: &mut [u64], at: usize, phase: u64, o: Open) -> Tur
     ensures { TurnIs f.now cells.new (at + 1) result }
 {
     if f.len() <= at {
-        return Turn::Stop { read: Read::Bad };
+        return Turn::Stop {
+            read: Err(Misread::Malformed),
+        };
     }
     if phase != 0 {
         if f[at] == b')' {
@@ -197,14 +187,16 @@ fn next_part(f: &[u8], cells: &mut [u64], at: usize, phase: u64, o: Open) -> Tur
                     open: o,
                 };
             }
-            return Turn::Stop { read: Read::Bad };
+            return Turn::Stop {
+                read: Err(Misread::Malformed),
+            };
         }
     }
     begin(f, cells, at, o)
 }
 
 // The value that the field spells, as cells from the first on; there is room for as many as `cells` has.
-pub fn read_value(f: &[u8], cells: &mut [u64]) -> Read
+pub fn read_value(f: &[u8], cells: &mut [u64]) -> Result<usize, Misread>
     ensures { ReadIs f.now cells.new result }
 {
     let mut at: usize = 0;

@@ -13,48 +13,32 @@ pub fn object_suits(parents: &[u64], objects: &[u64], o: u64, d: u64) -> bool
     ensures { ObjectSuits parents.now objects.now o d result }
 {
     let at = wide(o);
-    if at < objects.len() {
-        return class_below(parents, objects[at], d);
-    }
-    false
+    at < objects.len() && class_below(parents, objects[at], d)
 }
 
 // Whether object o, if there is such an object, belongs to the base.
 fn object_in(parents: &[u64], objects: &[u64], o: u64, base: Base) -> bool
     ensures { ObjectIn parents.now objects.now o base result }
 {
-    let y = tag(base);
-    if y == 5 {
-        return object_suits(parents, objects, o, class_in(base) as u64);
+    match tag(base) {
+        5 => object_suits(parents, objects, o, u64::from(class_in(base))),
+        3 => wide(o) < objects.len(),
+        _ => false,
     }
-    if y != 3 {
-        return false;
-    }
-    wide(o) < objects.len()
 }
 
 // Whether the value with this first cell belongs to a base.
 fn base_suits(parents: &[u64], objects: &[u64], base: Base, cell: u64) -> bool
     ensures { BaseSuits parents.now objects.now base cell result }
 {
-    let sort = sort_of(cell);
-    if sort == 2 {
-        return object_in(parents, objects, payload_of(cell), base);
+    match (sort_of(cell), tag(base)) {
+        (2, _) => object_in(parents, objects, payload_of(cell), base),
+        (0 | 1, 3) => true,
+        (0, y) => y == 1,
+        (1, 2) => is_integer(cell),
+        (1, y) => y == 4,
+        _ => false,
     }
-    if 2 < sort {
-        return false;
-    }
-    let y = tag(base);
-    if y == 3 {
-        return true;
-    }
-    if sort == 0 {
-        return y == 1;
-    }
-    if y == 2 {
-        return is_integer(cell);
-    }
-    y == 4
 }
 
 // Whether the value with this first cell is a collection of the letter's kind.
@@ -62,16 +46,8 @@ fn letter_suits(letter: u8, cell: u64) -> bool
     ensures { LetterSuits letter cell result }
 {
     let sort = sort_of(cell);
-    if sort < SET {
-        return false;
-    }
-    if letter < letters::SET {
-        return true;
-    }
-    if letters::BAG < letter {
-        return true;
-    }
-    sort == letter as u64 + 1
+    let any = letter < letters::SET || letters::BAG < letter;
+    SET <= sort && (any || sort == u64::from(letter) + 1)
 }
 
 // Whether the value from p to end belongs to the type.

@@ -92,20 +92,18 @@ fn put_members(out: &mut [u8], at: usize, cells: &[u64], from: usize, n: usize) 
     if n == 0 {
         return Next {
             at: put_byte(out, at, b')'),
-            from: from,
+            from,
         };
     }
     let one = put_next(out, at, cells, from);
-    let end = one.at;
-    let next = one.from;
     if n == 1 {
         return Next {
-            at: put_byte(out, end, b')'),
-            from: next,
+            at: put_byte(out, one.at, b')'),
+            from: one.from,
         };
     }
-    let comma = put_byte(out, end, b',');
-    put_members(out, comma, cells, next, n - 1)
+    let comma = put_byte(out, one.at, b',');
+    put_members(out, comma, cells, one.from, n - 1)
 }
 
 // Puts the value whose cells lie from `from` to `end`.
@@ -113,6 +111,5 @@ pub fn put_value(out: &mut [u8], at: usize, cells: &[u64], from: usize, end: usi
     requires { ValueFits at cells.now from end (length out.old) }
     ensures { (v : Value) → Fits v → slice from end cells.now ≡ enc v → Puts at (spell_value v) out.old out.new result }
 {
-    let next = put_next(out, at, &cells[..end], from);
-    next.at
+    put_next(out, at, &cells[..end], from).at
 }

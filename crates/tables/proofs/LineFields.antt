@@ -13,7 +13,10 @@ use Rattle.laws.specs.Choice.{on_some}
 use Rattle.sheet.specs.Text.{Bytes}
 use Rattle.sheet.specs.Lines.{is, next, done}
 use Rattle.text.specs.Numbers.{cut_num}
-use Rattle.text.specs.declared.numbers.Num.TheVariants.{Is}
+use Rattle.std.specs.Prelude.{Option as Optional, Some, None, Result, Ok, Err}
+use Rattle.std.specs.Option.{ok_or}
+use Rattle.memory.specs.declared.refusals.Refusal.{Refusal}
+use Rattle.memory.specs.declared.refusals.Refusal.TheVariants.{BadLine}
 
 pub word_is : (f w : Bytes) → is f w ≡ true → f ≡ w
 unfolding is
@@ -66,12 +69,12 @@ abbrev pub the : Option ℕ → ℕ
 the none = 0
 the (some n) = n
 
-module _ {m : ℕ} (o : Option ℕ) (read : Is m ≡ cut_num o) where
+module _ {m : ℕ} (o : Option ℕ) (read : Some m ≡ cut_num o) where
   pub num_some : o ≡ some (the o)
   unfolding cut_num
   num_some = go o read
     where
-      go : (o : Option ℕ) → Is m ≡ cut_num o → o ≡ some (the o)
+      go : (o : Option ℕ) → Some m ≡ cut_num o → o ≡ some (the o)
       go none h = absurd (let z : ◌≡◌ {A = ℕ} 0 1 = cc in omega arith)
       go (some n) h = refl
 
@@ -79,10 +82,27 @@ module _ {m : ℕ} (o : Option ℕ) (read : Is m ≡ cut_num o) where
   unfolding cut_num
   num_cut = go o read
     where
-      go : (o : Option ℕ) → Is m ≡ cut_num o → m ≡ min (the o) 1000000
+      go : (o : Option ℕ) → Some m ≡ cut_num o → m ≡ min (the o) 1000000
       go none h = absurd (let z : ◌≡◌ {A = ℕ} 0 1 = cc in omega arith)
       go (some n) h = cc
 
   -- a number below the cut is the number itself
   pub num_exact : m < 1000000 → o ≡ some m
   num_exact h = num_some ∙ ap some (omega (arith, num_cut))
+
+-- ---- a field that is read, or for which its line is refused
+
+module _ {A : Type 0} {o p : Optional A} (read : o ≡ p) where
+  pub is_read : {x : A} → ◌≡◌ {A = Result A Refusal} (Ok x) (ok_or o BadLine) → Some x ≡ p
+  is_read {x} h = go o h ∙ read
+    where
+      go : (o : Optional A) → ◌≡◌ {A = Result A Refusal} (Ok x) (ok_or o BadLine) → Some x ≡ o
+      go None h = absurd (let z : ◌≡◌ {A = ℕ} 0 1 = cc in omega arith)
+      go (Some y) h = let z : x ≡ y = cc in ap Some z
+
+  pub not_read : {d : Refusal} → ◌≡◌ {A = Result A Refusal} (Err d) (ok_or o BadLine) → (None ≡ p) × (d ≡ BadLine)
+  not_read {d} h = let z = go o h in (z.0 ∙ read, z.1)
+    where
+      go : (o : Optional A) → ◌≡◌ {A = Result A Refusal} (Err d) (ok_or o BadLine) → (◌≡◌ {A = Optional A} None o) × (d ≡ BadLine)
+      go None h = (refl, cc)
+      go (Some y) h = absurd (let z : ◌≡◌ {A = ℕ} 0 1 = cc in omega arith)

@@ -1,6 +1,6 @@
 -- Where a sheet lies in the lent words, and what a line's code promises: if the words held the sheet, they hold the sheet with
 -- the line, or the line is refused as the definition says.
-use Rattle.std.specs.Prelude.{◌≡◌, Bool, true, false, List, [], ◌∷◌, ◌++◌, map, ℕ, zero, suc, ◌+◌, ◌*◌, ◌/◌, ◌≤◌, ◌<◌, length, get_or, take, drop}
+use Rattle.std.specs.Prelude.{◌≡◌, Bool, true, false, List, [], ◌∷◌, ◌++◌, map, ℕ, zero, suc, ◌+◌, ◌*◌, ◌/◌, ◌≤◌, ◌<◌, length, get_or, take, drop, Result, Ok, Err}
 use Rattle.std.proofs.Math.Option.{Option, none, some}
 use Rattle.laws.specs.Lists.{member, concat, Each}
 use Rattle.memory.specs.Map as memory
@@ -19,8 +19,8 @@ use Rattle.types.specs.Word.{type_in}
 use Rattle.values.specs.Cells.{enc, Fits}
 use Rattle.nodes.specs.Nodes.{word, tree_at}
 use Rattle.tables.specs.declared.Counts.{Counts}
-use Rattle.tables.specs.declared.Step.{Step as CodeStep}
-use Rattle.tables.specs.declared.Step.TheVariants as code
+use Rattle.memory.specs.declared.refusals.Refusal.{Refusal}
+use Rattle.memory.specs.Refusals.{number}
 
 -- the first n words of the table at an offset
 abbrev pub tab : ℕ → ℕ → List ℕ → List ℕ
@@ -153,12 +153,12 @@ pub record Kept (before after : List ℕ) : Type 0 where
   pub rest : drop least_words after ≡ drop least_words before
 
 -- a step of the code and a step of the definition
-pub data Moved (w0 w1 : List ℕ) : CodeStep → Step → Type 0 where
-  moved_next : {st : Counts} {s : Sheet} → Fine st → Holds st w0 w1 s → Moved w0 w1 (code.Next st) (taken s)
-  moved_refused : {n : ℕ} → Moved w0 w1 (code.Refused n) (refuse n)
+pub data Moved (w0 w1 : List ℕ) : Result Counts Refusal → Step → Type 0 where
+  moved_next : {st : Counts} {s : Sheet} → Fine st → Holds st w0 w1 s → Moved w0 w1 (Ok st) (taken s)
+  moved_refused : {e : Refusal} → Moved w0 w1 (Err e) (refuse (number e))
 
 -- line k with these bytes, taken at st: the words were w0 and w1 and are v0 and v1
-pub record Took (st : Counts) (k : ℕ) (line : Bytes) (r : CodeStep) (w0 w1 v0 v1 : List ℕ) : Type 0 where
+pub record Took (st : Counts) (k : ℕ) (line : Bytes) (r : Result Counts Refusal) (w0 w1 v0 v1 : List ℕ) : Type 0 where
   pub is : (s : Sheet) → Holds st w0 w1 s → Moved v0 v1 r (step s k (fields_of line))
   pub kept0 : Kept w0 v0
   pub kept1 : Kept w1 v1

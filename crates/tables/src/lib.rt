@@ -28,13 +28,6 @@ pub struct Counts {
     pub first: u64,
 }
 
-// After a line: the counts with it, or a refusal's number.
-#[derive(Clone, Copy)]
-pub enum Step {
-    Next(Counts),
-    Refused(u64),
-}
-
 // The counts before the first line.
 pub fn nothing() -> Counts
     ensures { result ≡ no_counts }
@@ -61,9 +54,5 @@ pub fn wipe(w: &mut [u64])
     requires { least_words ≤ length w.old }
     ensures { w.new ≡ wiped w.old }
 {
-    let mut i: usize = 0;
-    while i < memory::LEAST_WORDS {
-        w[i] = 0;
-        i += 1;
-    }
+    w[..memory::LEAST_WORDS].fill(0);
 }

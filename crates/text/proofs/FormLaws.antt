@@ -108,16 +108,10 @@ pub record WordsLeft (w words codes : Bytes) (at k : ℕ) : Type 0 where
   pub room : (length codes - k) * (length w + 1) + at ≤ length words + 1
   pub code : code_among w (drop at words) (drop k codes) ≡ code_among w words codes
 
-pub left_all : (w words codes : Bytes) → length codes * (length w + 1) ≤ length words + 1 → WordsLeft w words codes 0 0
-left_all w words codes h = let q : length codes - 0 ≡ length codes = omega arith in record { room = rw q (omega arith); code = refl }
-
 rows_left : (c k n : ℕ) → k < c → (c - k) * n ≡ n + (c - (k + 1)) * n
 rows_left c k n h = let q : c - k ≡ suc (c - (k + 1)) = omega arith in rw (q, suc-mul (c - (k + 1)) n) (omega arith)
 
 module _ {w words codes : Bytes} {at k : ℕ} (left : WordsLeft w words codes at k) where
-  pub word_within : k < length codes → at + length w ≤ length words
-  word_within h = omega (arith, rows_left (length codes) k (length w + 1) h, left.room)
-
   module _ {t : Bool} (told : t ≡ is w (take ((at + length w) - at) (drop at words))) where
     word_here : t ≡ is w (take (length w) (drop at words))
     word_here = let q : (at + length w) - at ≡ length w = omega arith in rw q at told

@@ -12,7 +12,7 @@ use lib.IntN.{ℤ, pos}
 use lib.ListN.{length, get_or, take, drop, drop_of_length-le, length-drop}
 use lib.Seq.{drop-drop}
 use Rattle.laws.specs.Choice.{map_some, on_some, or_else}
-use Rattle.std.specs.Prelude.{if◌then◌else◌}
+use Rattle.std.specs.Prelude.{if◌then◌else◌, Ok, Err}
 use Rattle.laws.proofs.Tests.{Any?, any_some}
 use Rattle.laws.proofs.Options.{or_else_none}
 use Rattle.laws.proofs.Parts.{at_next}
@@ -22,38 +22,38 @@ use Rattle.sheet.specs.Lines.{an_integer}
 use Rattle.laws.specs.Integers.{bias}
 use Rattle.text.specs.Numbers.{leading, DigitsEnd, DigitsRead, IntegerEnd, IntegerRead, whole_of, minus_at, signed, leading_integer}
 use Rattle.text.specs.declared.numbers.Digits.{Digits}
-use Rattle.text.specs.declared.numbers.Int.TheVariants.{Bad, Out, Is}
 use Rattle.text.proofs.NumberLaws.{number_leading, digits_after, leading_some, leading_none, whole_read, whole_left}
+use Rattle.memory.specs.declared.refusals.Misread.TheVariants.{Malformed, OverLimit}
 
 -- ---- the sign: what `by_sign` answers
 
 module _ (n : ℕ) where
-  pub plus_in : {m : ℕ} → m ≡ 0 → n < 2147483648 → Is (2147483648 + n) ≡ whole_of (signed m n)
+  pub plus_in : {m : ℕ} → m ≡ 0 → n < 2147483648 → Ok (2147483648 + n) ≡ whole_of (signed m n)
   unfolding whole_of signed in_range bias
   plus_in e h = rw (e, lt-ltb n 2147483648 h)
 
-  pub plus_out : {m : ℕ} → m ≡ 0 → 2147483648 ≤ n → Out ≡ whole_of (signed m n)
+  pub plus_out : {m : ℕ} → m ≡ 0 → 2147483648 ≤ n → Err OverLimit ≡ whole_of (signed m n)
   unfolding whole_of signed in_range
   plus_out e h = rw (e, le-ltb n 2147483648 h)
 
-pub minus_zero : (m n : ℕ) → (m ≡ 0 → ⊥) → n ≡ 0 → Bad ≡ whole_of (signed m n)
+pub minus_zero : (m n : ℕ) → (m ≡ 0 → ⊥) → n ≡ 0 → Err Malformed ≡ whole_of (signed m n)
 unfolding whole_of signed
 minus_zero zero n p e = absurd (p refl)
 minus_zero (suc m) n p e = rw e
 
-pub minus_in : (m n : ℕ) → (m ≡ 0 → ⊥) → (n ≡ 0 → ⊥) → n ≤ 2147483648 → Is (2147483648 - n) ≡ whole_of (signed m n)
+pub minus_in : (m n : ℕ) → (m ≡ 0 → ⊥) → (n ≡ 0 → ⊥) → n ≤ 2147483648 → Ok (2147483648 - n) ≡ whole_of (signed m n)
 unfolding whole_of signed in_range bias
 minus_in zero n p q h = absurd (p refl)
 minus_in (suc m) zero p q h = absurd (q refl)
 minus_in (suc m) (suc n) p q h = rw (lt-ltb n 2147483648 (omega arith))
 
-pub minus_out : (m n : ℕ) → (m ≡ 0 → ⊥) → 2147483648 < n → Out ≡ whole_of (signed m n)
+pub minus_out : (m n : ℕ) → (m ≡ 0 → ⊥) → 2147483648 < n → Err OverLimit ≡ whole_of (signed m n)
 unfolding whole_of signed in_range
 minus_out zero n p h = absurd (p refl)
 minus_out (suc m) zero p h = absurd (omega arith)
 minus_out (suc m) (suc n) p h = rw (le-ltb n 2147483648 (omega arith))
 
-far_out : (m n : ℕ) → 2147483648 < n → whole_of (signed m n) ≡ Out
+far_out : (m n : ℕ) → 2147483648 < n → whole_of (signed m n) ≡ Err OverLimit
 far_out zero n h = sym (plus_out n {m = 0} refl (omega arith))
 far_out (suc m) n h = sym (minus_out (suc m) n (λ e. omega arith) h)
 
@@ -146,7 +146,7 @@ module _ {s : Bytes} {at e : ℕ} (to : IntegerEnd s at e) where
     unfolding on_some
     integer_read h p = rw (p, ← sign, by_leading, leading_some digits_to told h) (cut_whole m _)
 
-    pub integer_bad : t ≡ false → Bad ≡ whole_of (leading_integer (drop at s))
+    pub integer_bad : t ≡ false → Err Malformed ≡ whole_of (leading_integer (drop at s))
     unfolding on_some whole_of
     integer_bad h = rw (by_leading, leading_none digits_to told h)
 
@@ -161,29 +161,29 @@ module _ {f : Bytes} {e : ℕ} (to : IntegerEnd f 0 e) where
 
 -- ---- what a caller learns of the field by the answer
 
-pub whole_bad : (o : Option ℤ) → Bad ≡ whole_of o → o ≡ none
+pub whole_bad : (o : Option ℤ) → Err Malformed ≡ whole_of o → o ≡ none
 unfolding whole_of
 whole_bad none h = refl
 whole_bad (some z) h = absurd (go (in_range z) h)
   where
-    go : (t : Bool) → Bad ≡ (if t then Is (bias z) else Out) → ⊥
+    go : (t : Bool) → Err Malformed ≡ (if t then Ok (bias z) else Err OverLimit) → ⊥
     go true h = let z : ◌≡◌ {A = ℕ} 0 1 = cc in omega arith
     go false h = let z : ◌≡◌ {A = ℕ} 0 1 = cc in omega arith
 
-pub whole_out : (o : Option ℤ) → Out ≡ whole_of o → Any? (λ z. in_range z ≡ false) o
+pub whole_out : (o : Option ℤ) → Err OverLimit ≡ whole_of o → Any? (λ z. in_range z ≡ false) o
 unfolding whole_of
 whole_out none h = absurd (let z : ◌≡◌ {A = ℕ} 0 1 = cc in omega arith)
 whole_out (some z) h = any_some (go (in_range z) h)
   where
-    go : (t : Bool) → Out ≡ (if t then Is (bias z) else Out) → t ≡ false
+    go : (t : Bool) → Err OverLimit ≡ (if t then Ok (bias z) else Err OverLimit) → t ≡ false
     go true h = absurd (let z : ◌≡◌ {A = ℕ} 0 1 = cc in omega arith)
     go false h = refl
 
-pub whole_is : {p : ℕ} (o : Option ℤ) → Is p ≡ whole_of o → Any? (λ z. (in_range z ≡ true) × (p ≡ bias z)) o
+pub whole_is : {p : ℕ} (o : Option ℤ) → Ok p ≡ whole_of o → Any? (λ z. (in_range z ≡ true) × (p ≡ bias z)) o
 unfolding whole_of
 whole_is none h = absurd (let z : ◌≡◌ {A = ℕ} 0 1 = cc in omega arith)
 whole_is {p} (some z) h = any_some (go (in_range z) h)
   where
-    go : (t : Bool) → Is p ≡ (if t then Is (bias z) else Out) → (t ≡ true) × (p ≡ bias z)
+    go : (t : Bool) → Ok p ≡ (if t then Ok (bias z) else Err OverLimit) → (t ≡ true) × (p ≡ bias z)
     go true h = (refl, cc)
     go false h = absurd (let z : ◌≡◌ {A = ℕ} 0 1 = cc in omega arith)

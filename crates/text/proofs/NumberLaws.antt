@@ -6,12 +6,12 @@ use mathlib.Core.Bool.{Bool, true, false, not}
 use mathlib.Core.Option.{Option, none, some}
 use mathlib.Core.List.{[], ◌∷◌}
 use native.Mathlib.Omega.{arith}
-use borrow.Author.Tests.{eq-eqb, ne_eqb}
-use lib.Dec.{eqb}
+use borrow.Author.Tests.{eq-eqb, ne_eqb, le-ltb}
+use lib.Dec.{eqb, ltb}
 use lib.ListN.{length, get_or, take, drop, drop_of_length-le}
 use lib.Seq.{take_at, drop_at, drop-drop}
 use Rattle.laws.specs.Choice.{map_some, on_some}
-use Rattle.std.specs.Prelude.{if◌then◌else◌}
+use Rattle.std.specs.Prelude.{if◌then◌else◌, Some, None}
 use Rattle.laws.proofs.Tests.{Any?, any_some}
 use Rattle.laws.proofs.Parts.{at_next, part_next, part_none}
 use Rattle.sheet.specs.Text.{Bytes, Parser, is_digit, digits, after_digits, plain, value_of_digits, number_parser, whole, at_end}
@@ -19,7 +19,6 @@ use Rattle.sheet.specs.Lines.{a_number}
 use Rattle.sheet.proofs.Numbers.{digits_split}
 use Rattle.text.specs.Words.{byte_kind}
 use Rattle.text.specs.Numbers.{cut_num, leading, DigitsEnd}
-use Rattle.text.specs.declared.numbers.Num.TheVariants.{Bad, Is}
 use Rattle.text.proofs.WordLaws.{digit_by_kind}
 
 -- ---- the cut
@@ -104,23 +103,17 @@ module _ {s : Bytes} {at e : ℕ} (to : DigitsEnd s at e) where
 -- ---- digits without a leading zero
 
 module _ (s : Bytes) (a e : ℕ) (within : e ≤ length s) where
-  pub plain_none : a ≡ e → false ≡ plain (take (e - a) (drop a s))
+  pub plain_none : e ≤ a → ltb a e ≡ plain (take (e - a) (drop a s))
   unfolding plain
-  plain_none h = rw (part_none s a e (omega arith))
+  plain_none h = rw (part_none s a e h) (le-ltb a e h)
 
-  pub plain_one : a + 1 ≡ e → true ≡ plain (take (e - a) (drop a s))
+  pub plain_one : a + 1 ≡ e → eqb (a + 1) e ≡ plain (take (e - a) (drop a s))
   unfolding plain
-  plain_one h = rw (part_next 0 s a e (omega arith) within, part_none s (a + 1) e (omega arith))
+  plain_one h = rw (part_next 0 s a e (omega arith) within, part_none s (a + 1) e (omega arith)) (eq-eqb (a + 1) e h)
 
-  plain_more : a + 1 < e → plain (take (e - a) (drop a s)) ≡ not (eqb (get_or s a 0) 48)
+  pub plain_more : a < e → (a + 1 ≡ e → ⊥) → not (eqb (get_or s a 0) 48) ≡ plain (take (e - a) (drop a s))
   unfolding plain
-  plain_more h = rw (part_next 0 s a e (omega arith) within, part_next 0 s (a + 1) e h within)
-
-  pub plain_zero : a ≤ e → (a ≡ e → ⊥) → (a + 1 ≡ e → ⊥) → get_or s a 0 ≡ 48 → false ≡ plain (take (e - a) (drop a s))
-  plain_zero o p q z = sym (plain_more (omega arith) ∙ ap not (eq-eqb _ _ z))
-
-  pub plain_other : a ≤ e → (a ≡ e → ⊥) → (a + 1 ≡ e → ⊥) → (get_or s a 0 ≡ 48 → ⊥) → true ≡ plain (take (e - a) (drop a s))
-  plain_other o p q z = sym (plain_more (omega arith) ∙ ap not (ne_eqb _ _ z))
+  plain_more l h = rw (part_next 0 s a e l within, part_next 0 s (a + 1) e (omega arith) within) refl
 
 -- ---- a number in a field
 
@@ -136,11 +129,11 @@ module _ {s : Bytes} {at e : ℕ} (to : DigitsEnd s at e) {t : Bool} (told : t �
   unfolding leading
   leading_none h = rw (plain_told, h)
 
-  pub number_read : {m r : ℕ} → t ≡ true → m ≡ min (value_of_digits 0 (digits (drop at s))) 10000000000 → r ≡ min m 1000000 → Is r ≡ cut_num (leading (drop at s))
+  pub number_read : {m r : ℕ} → t ≡ true → m ≡ min (value_of_digits 0 (digits (drop at s))) 10000000000 → r ≡ min m 1000000 → Some r ≡ cut_num (leading (drop at s))
   unfolding cut_num
-  number_read h p q = rw (leading_some h) (ap Is (omega arith))
+  number_read h p q = rw (leading_some h) (ap Some (omega arith))
 
-  pub number_bad : t ≡ false → Bad ≡ cut_num (leading (drop at s))
+  pub number_bad : t ≡ false → None ≡ cut_num (leading (drop at s))
   unfolding cut_num
   number_bad h = rw (leading_none h)
 
@@ -173,12 +166,12 @@ module _ {f : Bytes} {e : ℕ} (to : DigitsEnd f 0 e) where
 
 -- ---- what a caller learns of the field by the answer
 
-pub num_bad : (o : Option ℕ) → Bad ≡ cut_num o → o ≡ none
+pub num_bad : (o : Option ℕ) → None ≡ cut_num o → o ≡ none
 unfolding cut_num
 num_bad none h = refl
 num_bad (some n) h = absurd (let z : ◌≡◌ {A = ℕ} 0 1 = cc in omega arith)
 
-pub num_is : {m : ℕ} (o : Option ℕ) → Is m ≡ cut_num o → Any? (λ n. m ≡ min n 1000000) o
+pub num_is : {m : ℕ} (o : Option ℕ) → Some m ≡ cut_num o → Any? (λ n. m ≡ min n 1000000) o
 unfolding cut_num
 num_is none h = absurd (let z : ◌≡◌ {A = ℕ} 0 1 = cc in omega arith)
 num_is (some n) h = any_some {x = n} (cc)

@@ -8,28 +8,23 @@ use native.Mathlib.Omega.{arith}
 use native.Mathlib.Decide.{dec_lt}
 use borrow.Author.Tests.{eq-eqb, ne_eqb}
 use lib.Dec.{eqb}
-use lib.ListN.{length, get_or, take, drop, set, drop_of_length-le, length-drop, length-set}
+use lib.ListN.{length, get_or, take, drop, set, length-drop, length-set}
 use lib.Seq.{take_all, get_or-set_same, get_or-set_other, get_or-drop, drop-drop}
 use Rattle.std.specs.Prelude.{if◌then◌else◌}
-use Rattle.laws.proofs.Parts.{at_next, part_all}
+use Rattle.laws.proofs.Parts.{part_all}
 use Rattle.sheet.specs.Text.{Bytes, onto, split, fields_of}
 use Rattle.text.specs.Parts.{until_sep, PartEnd, BytesAt, field_start, Cut}
 use Rattle.text.specs.declared.parts.Fields.{Fields}
 
--- ---- the first separator: the turns of `find`
+-- ---- the first separator
 
-module _ (sep : ℕ) (s : Bytes) (i : ℕ) (inv : i + until_sep sep (drop i s) ≡ until_sep sep s) where
-  pub find_none : length s ≤ i → i ≡ until_sep sep s
-  unfolding until_sep
-  find_none h = let e : until_sep sep (drop i s) ≡ 0 = rw (drop_of_length-le s h) in omega arith
-
-  pub find_here : i < length s → get_or s i 0 ≡ sep → i ≡ until_sep sep s
-  unfolding until_sep
-  find_here h q = let e : until_sep sep (drop i s) ≡ 0 = rw (at_next 0 s i h, eq-eqb _ _ q) in omega arith
-
-  pub find_next : i < length s → (get_or s i 0 ≡ sep → ⊥) → (i + 1) + until_sep sep (drop (i + 1) s) ≡ until_sep sep s
-  unfolding until_sep
-  find_next h q = let e : until_sep sep (drop i s) ≡ until_sep sep (drop (i + 1) s) + 1 = rw (at_next 0 s i h, ne_eqb _ _ q) in omega arith
+pub first_at : (sep : ℕ) (s : Bytes) (r : ℕ) → r ≤ length s → ((k : ℕ) → k < r → get_or s k 0 ≡ sep → ⊥) → (r < length s → get_or s r 0 ≡ sep) → r ≡ until_sep sep s
+unfolding until_sep
+first_at sep [] r h before here = omega arith
+first_at sep (b ∷ s) zero h before here = rw (eq-eqb b sep (here (omega arith))) refl
+first_at sep (b ∷ s) (suc r) h before here =
+    rw (ne_eqb b sep (before 0 (omega arith)))
+    (let e : r ≡ until_sep sep s = first_at sep s r (omega arith) (λ k l. before (suc k) (omega arith)) (λ l. here (omega arith)) in omega arith)
 
 -- ---- `split` by the first separator
 
@@ -163,14 +158,12 @@ unfolding field_start
 start_later ends zero h = absurd (h refl)
 start_later ends (suc k) h = rw (sub-one (suc k))
 
-module _ {line : Bytes} {f : Fields} {k : ℕ} (is : Cut line f) (counted : k < f.count) (low : k < 10) where
-  pub field_within : get_or f.ends k 0 ≤ length line
-  field_within = (is.each k counted low).within
+module _ {line : Bytes} {f : Fields} {k start : ℕ} (is : Cut line f) (counted : k < f.count) (low : k < 10) where
+  field_from : start ≡ field_start f.ends k → BytesAt line start (get_or f.ends k 0) (get_or (fields_of line) k [])
+  field_from e = rw e (is.each k counted low)
 
-  pub first_field : k ≡ 0 → take (get_or f.ends k 0) line ≡ get_or (fields_of line) k []
-  first_field z =
-      let q : get_or f.ends k 0 - 0 ≡ get_or f.ends k 0 = omega arith in
-      rw (start_first f.ends k z, q) at (is.each k counted low).is
+  pub first_field : k ≡ 0 → start ≡ 0 → BytesAt line start (get_or f.ends k 0) (get_or (fields_of line) k [])
+  first_field z e = field_from (e ∙ sym (start_first f.ends k z))
 
-  pub later_field : (k ≡ 0 → ⊥) → BytesAt line (get_or f.ends (k - 1) 0 + 1) (get_or f.ends k 0) (get_or (fields_of line) k [])
-  later_field h = rw (start_later f.ends k h) at (is.each k counted low)
+  pub later_field : (k ≡ 0 → ⊥) → start ≡ get_or f.ends (k - 1) 0 + 1 → BytesAt line start (get_or f.ends k 0) (get_or (fields_of line) k [])
+  later_field h e = field_from (e ∙ sym (start_later f.ends k h))

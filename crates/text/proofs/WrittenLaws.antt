@@ -6,8 +6,8 @@ use native.Mathlib.Numerals.{add-one}
 use native.Mathlib.Omega.{arith}
 use borrow.Author.Tests.{lt-ltb, le-ltb}
 use lib.Ieee.{Float}
-use lib.ListN.{length, get_or, take, drop, set, length-append, length-take, length-drop, length-set, take-append-drop}
-use lib.Seq.{append_snoc, set_split, take_at, drop-append-add, drop-drop, take-length, paste-zero, paste-suc, paste}
+use lib.ListN.{length, take, drop, set, length-append, length-take, length-drop, take-append-drop}
+use lib.Seq.{append_snoc, set_split, take_at, drop-append-add, drop-drop}
 use Rattle.sheet.specs.Text.{Bytes, spell_number, spell_integer}
 use Rattle.laws.specs.Integers.{unbias}
 use Rattle.floats.specs.Meanings.{Spells}
@@ -51,24 +51,6 @@ puts_then {at} {r} {q} {v} {w} {a} {b} {c} p s room = record {
 
 pub byte_puts : (out : Bytes) (at b : ℕ) → at < length out → Puts at (b ∷ []) out (set out at b) (at + 1)
 byte_puts out at b h = record { is = set_split out at b h ∙ rw (add-one at) (sym (append_snoc (take at out) b (drop (suc at) out))); end = refl }
-
--- the turns of `put_bytes`: i bytes of w are written
-pub record PutTo (at : ℕ) (w before now : Bytes) (i : ℕ) : Type 0 where
-  pub is : now ≡ paste before at w i
-  pub long : length now ≡ length before
-
-module _ (at : ℕ) (w before : Bytes) (room : at + length w ≤ length before) where
-  pub put_none : PutTo at w before before 0
-  put_none = record { is = paste-zero before at w; long = refl }
-
-  pub put_next : {now : Bytes} {i : ℕ} → PutTo at w before now i → i < length w → PutTo at w before (set now (at + i) (get_or w i 0)) (i + 1)
-  put_next {now} {i} so h = record {
-    is = rw (so.is, add-one i) (paste-suc before at w i 0 (omega arith) h);
-    long = length-set now (at + i) (get_or w i 0) ∙ so.long;
-  }
-
-  pub put_all : {now : Bytes} {i : ℕ} → PutTo at w before now i → i ≡ length w → Puts at w before now (at + i)
-  put_all {now} {i} so h = record { is = so.is ∙ rw (h, take-length w); end = ap (λ (k : ℕ). at + k) h }
 
 -- the bytes of a Real's spelling
 pub puts_real : {x : Float} {text : Bytes} {at r : ℕ} {a b : Bytes} → Spells x text → Puts at text a b r → PutsReal at x a b r

@@ -1,17 +1,15 @@
 -- Decimal numbers and Integers as the code has them: a number saturates at a bound above every limit, an Integer is a natural number.
 -- proofs/NumberLaws.antt ties them to crates/sheet's `number_parser` and `integer_parser`, and shows that no test can tell the difference.
-use Rattle.std.specs.Prelude.{ℕ, zero, suc, ◌+◌, ◌≤◌, min, ◌≡◌, [], ◌∷◌, ℤ, pos, negsuc, length, drop, eqb}
+use Rattle.std.specs.Prelude.{ℕ, zero, suc, ◌+◌, ◌≤◌, min, ◌≡◌, [], ◌∷◌, ℤ, pos, negsuc, length, drop, eqb, Option as Optional, Some, None, Result, Ok, Err}
 use Rattle.std.proofs.Math.Option.{Option, none, some}
 use Rattle.laws.specs.Choice.{on_some}
 use Rattle.std.specs.Prelude.{if◌then◌else◌}
 use Rattle.laws.specs.Integers.{bias}
 use Rattle.reals.specs.Reals.{in_range}
 use Rattle.sheet.specs.Text.{Bytes, byte, digits, plain, value_of_digits}
-use Rattle.text.specs.declared.numbers.Num.{Num}
-use Rattle.text.specs.declared.numbers.Num.TheVariants.{Bad, Is}
 use Rattle.text.specs.declared.numbers.Digits.{Digits}
-use Rattle.text.specs.declared.numbers.Int.{Int}
-use Rattle.text.specs.declared.numbers.Int.TheVariants.{Bad as BadInt, Out, Is as IsInt}
+use Rattle.memory.specs.declared.refusals.Misread.{Misread}
+use Rattle.memory.specs.declared.refusals.Misread.TheVariants.{Malformed, OverLimit}
 
 -- ---- numbers
 
@@ -26,9 +24,9 @@ cut n = min n number_cut
 abbrev pub digits_cut : ℕ
 digits_cut = 10000000000
 
-unfoldable pub cut_num : Option ℕ → Num
-cut_num none = Bad
-cut_num (some n) = Is (cut n)
+unfoldable pub cut_num : Option ℕ → Optional ℕ
+cut_num none = None
+cut_num (some n) = Some (cut n)
 
 -- the number in front of a text: what crates/sheet's `number_parser` reads
 unfoldable pub leading : Bytes → Option ℕ
@@ -46,9 +44,9 @@ pub record DigitsRead (s : Bytes) (at : ℕ) (r : Digits) : Type 0 where
 
 -- ---- Integers
 
-unfoldable pub whole_of : Option ℤ → Int
-whole_of none = BadInt
-whole_of (some z) = if in_range z then IsInt (bias z) else Out
+unfoldable pub whole_of : Option ℤ → Result ℕ Misread
+whole_of none = Err Malformed
+whole_of (some z) = if in_range z then Ok (bias z) else Err OverLimit
 
 -- how many minus signs stand in front: at most one counts
 unfoldable pub minus_at : Bytes → ℕ

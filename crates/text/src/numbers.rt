@@ -8,26 +8,12 @@ ghost use Rattle.text.specs.Numbers.{cut_num, leading, DigitsRead, whole_of, min
 use crate::words::byte_kind;
 use floats::numbers::ZERO;
 use memory::lines;
-use memory::words::at_most;
+use memory::refusals::Misread;
 
 // Any greater number reads as this one, which is above every limit.
 pub const NUMBER_CUT: u64 = 1_000_000;
 // And the digits of an Integer as this one, which is out of the range.
 const DIGITS_CUT: u64 = 10_000_000_000;
-
-#[derive(Clone, Copy)]
-pub enum Num {
-    Bad,
-    Is(u64),
-}
-
-// An Integer of the range, with 2147483648 added to it, or one out of the range.
-#[derive(Clone, Copy)]
-pub enum Int {
-    Bad,
-    Out,
-    Is(u64),
-}
 
 // A run of digits: the position after it, and the number it stands for, which saturates above every Integer of the range.
 #[derive(Clone, Copy)]
@@ -41,23 +27,14 @@ fn plain(s: &[u8], a: usize, e: usize) -> bool
     requires { (a ≤ e) × (e ≤ length s.now) }
     ensures { result ≡ plain_of (take (e - a) (drop a s.now)) }
 {
-    if a == e {
-        return false;
-    }
-    if a + 1 == e {
-        return true;
-    }
-    if s[a] == 48 {
-        return false;
-    }
-    true
+    a < e && (a + 1 == e || s[a] != b'0')
 }
 
 // What a digit stands for; 0 for a byte below the digits.
 pub fn digit(b: u8) -> u64
     ensures { result ≡ b - 48 }
 {
-    if b < 48 { 0 } else { (b - 48) as u64 }
+    u64::from(b.saturating_sub(b'0'))
 }
 
 // The digits that begin at `at`, each looked at once.
@@ -65,70 +42,66 @@ pub fn digits_at(s: &[u8], at: usize) -> Digits
     requires { at ≤ length s.now }
     ensures { DigitsRead s.now at result }
 {
-    let mut n: u64 = 0;
-    let mut i = at;
-    while i < s.len() {
+    let mut n = 0;
+    for i in at..s.len() {
         let b = s[i];
         if byte_kind(b) != lines::DIGIT {
             return Digits { end: i, value: n };
         }
-        n = at_most(n * 10 + digit(b), DIGITS_CUT);
-        i += 1;
+        n = (n * 10 + digit(b)).min(DIGITS_CUT);
     }
-    Digits { end: i, value: n }
+    Digits {
+        end: s.len(),
+        value: n,
+    }
 }
 
 // The number that begins at `at`, which has these digits.
-pub fn number_at(s: &[u8], at: usize, d: Digits) -> Num
+pub fn number_at(s: &[u8], at: usize, d: Digits) -> Option<u64>
     requires { DigitsRead s.now at d }
     ensures { result ≡ cut_num (leading (drop at s.now)) }
 {
     if plain(s, at, d.end) {
-        return Num::Is(at_most(d.value, NUMBER_CUT));
+        return Some(d.value.min(NUMBER_CUT));
     }
-    Num::Bad
+    None
 }
 
 // The number that a whole field spells.
-pub fn number(f: &[u8]) -> Num
+pub fn number(f: &[u8]) -> Option<u64>
     ensures { result ≡ cut_num (a_number f.now) }
 {
     let d = digits_at(f, 0);
     if d.end == f.len() {
         return number_at(f, 0, d);
     }
-    Num::Bad
+    None
 }
 
 // 1 where a minus stands at `at`, else 0.
 fn minus_at(s: &[u8], at: usize) -> usize
     ensures { result ≡ minus_at (drop at s.now) }
 {
-    if at < s.len() {
-        if s[at] == b'-' {
-            return 1;
-        }
-    }
-    0
+    if at < s.len() && s[at] == b'-' { 1 } else { 0 }
 }
 
 // The Integer by its minus signs and what its digits stand for.
-fn by_sign(minuses: usize, n: u64) -> Int
+fn by_sign(minuses: usize, n: u64) -> Result<u64, Misread>
     ensures { result ≡ whole_of (signed minuses n) }
 {
     if minuses == 0 {
         if n < ZERO {
-            return Int::Is(ZERO + n);
+            return Ok(ZERO + n);
         }
-        return Int::Out;
+        return Err(Misread::OverLimit);
     }
     if n == 0 {
-        return Int::Bad;
+        return Err(Misread::Malformed);
     }
     if n <= ZERO {
-        return Int::Is(ZERO - n);
+        return Ok(ZERO - n);
     }
-    Int::Out
+    Err(Misread::OverLimit)
 }
 
 // The digits behind the minus, if there is one, of what begins at `at`.
@@ -141,7 +114,7 @@ pub fn integer_digits(s: &[u8], at: usize) -> Digits
 }
 
 // The Integer that begins at `at`, which has these digits.
-pub fn integer_at(s: &[u8], at: usize, d: Digits) -> Int
+pub fn integer_at(s: &[u8], at: usize, d: Digits) -> Result<u64, Misread>
     requires { IntegerRead s.now at d }
     ensures { result ≡ whole_of (leading_integer (drop at s.now)) }
 {
@@ -150,16 +123,16 @@ pub fn integer_at(s: &[u8], at: usize, d: Digits) -> Int
     if plain(s, from, d.end) {
         return by_sign(minuses, d.value);
     }
-    Int::Bad
+    Err(Misread::Malformed)
 }
 
 // The Integer that a whole field spells.
-pub fn integer(f: &[u8]) -> Int
+pub fn integer(f: &[u8]) -> Result<u64, Misread>
     ensures { result ≡ whole_of (an_integer f.now) }
 {
     let d = integer_digits(f, 0);
     if d.end == f.len() {
         return integer_at(f, 0, d);
     }
-    Int::Bad
+    Err(Misread::Malformed)
 }

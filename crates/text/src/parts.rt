@@ -15,14 +15,7 @@ pub struct Fields {
 pub fn find(s: &[u8], sep: u8) -> usize
     ensures { PartEnd sep s.now result }
 {
-    let mut i = 0;
-    while i < s.len() {
-        if s[i] == sep {
-            return i;
-        }
-        i += 1;
-    }
-    i
+    s.iter().position(|b| *b == sep).unwrap_or(s.len())
 }
 
 // The line's fields; each byte is looked at once.
@@ -30,25 +23,16 @@ pub fn cut(line: &[u8]) -> Fields
     ensures { Cut line.now result }
 {
     let mut ends: [usize; 10] = [0; 10];
-    let mut at: usize = 0;
-    let mut n: usize = 0;
-    while n < 10 {
-        let rest = &line[at..];
-        let e = at + find(rest, 9);
-        ends[n] = e;
-        n += 1;
+    let mut at = 0;
+    for k in 0..10 {
+        let e = at + find(&line[at..], b'\t');
+        ends[k] = e;
         if e == line.len() {
-            return Fields {
-                count: n,
-                ends: ends,
-            };
+            return Fields { count: k + 1, ends };
         }
         at = e + 1;
     }
-    Fields {
-        count: 11,
-        ends: ends,
-    }
+    Fields { count: 11, ends }
 }
 
 // The field k of a line that was cut into `f`.
@@ -56,12 +40,6 @@ pub fn field(line: &[u8], f: Fields, k: usize) -> &[u8]
     requires { Cut line.now f × (k < f.count) × (k < 10) }
     ensures { result.now ≡ get_or (fields_of line.now) k [] }
 {
-    let ends = f.ends;
-    let e = ends[k];
-    if k == 0 {
-        return &line[..e];
-    }
-    let before = ends[k - 1];
-    let start = before + 1;
-    &line[start..e]
+    let start = if k == 0 { 0 } else { f.ends[k - 1] + 1 };
+    &line[start..f.ends[k]]
 }

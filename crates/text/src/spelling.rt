@@ -52,12 +52,9 @@ pub fn put_bytes(out: &mut [u8], at: usize, w: &[u8]) -> usize
     requires { at + length w.now ≤ length out.old }
     ensures { Puts at w.now out.old out.new result }
 {
-    let mut i: usize = 0;
-    while i < w.len() {
-        out[at + i] = w[i];
-        i += 1;
-    }
-    at + i
+    let end = at + w.len();
+    out[at..end].copy_from_slice(w);
+    end
 }
 
 // How many digits n has.
@@ -65,14 +62,12 @@ fn digit_count(n: u64) -> usize
     ensures { result ≡ length (spell_number n) }
 {
     let powers = POWERS;
-    let mut k: usize = 1;
-    while k < 20 {
+    for k in 1..20 {
         if n < powers[k] {
             return k;
         }
-        k += 1;
     }
-    k
+    20
 }
 
 // The one place where a digit is found: p, a power of ten, is subtracted from n as often as it goes (document 02, F-3).
@@ -82,6 +77,7 @@ fn leading(n: u64, p: u64) -> Lead
 {
     let mut digit = b'0';
     let mut rest = n;
+    // how often it goes is what is asked
     while p <= rest {
         rest -= p;
         digit += 1;
@@ -94,14 +90,11 @@ pub fn put_number(out: &mut [u8], at: usize, n: u64) -> usize
     ensures { Puts at (spell_number n) out.old out.new result }
 {
     let powers = POWERS;
-    let mut k = digit_count(n);
     let mut e = at;
     let mut rest = n;
-    while 0 < k {
-        k -= 1;
+    for k in (0..digit_count(n)).rev() {
         let lead = leading(rest, powers[k]);
-        let digit = lead.digit;
-        e = put_byte(out, e, digit);
+        e = put_byte(out, e, lead.digit);
         rest = lead.rest;
     }
     e

@@ -3,7 +3,6 @@ ghost use Rattle.std.specs.Prelude.{◌≡◌, ◌+◌, ◌*◌, ◌≤◌, leng
 ghost use Rattle.sheet.specs.Lines.{is};
 ghost use Rattle.text.specs.Words.{byte_kind, only_byte, code_among, form_code};
 
-use memory::words::of_byte;
 use memory::{codes, lines};
 
 // What a byte can begin: a line by its letter, a number, or nothing. This is the match with ranges over line letters and digits of document
@@ -29,27 +28,17 @@ pub fn byte_kind(b: u8) -> u64
 pub fn letter(f: &[u8]) -> u8
     ensures { result ≡ only_byte f.now }
 {
-    if f.len() == 1 {
-        return f[0];
+    match f {
+        [b] => *b,
+        _ => 0,
     }
-    0
 }
 
 // Whether the field is this word.
 pub fn same(f: &[u8], w: &[u8]) -> bool
     ensures { result ≡ is f.now w.now }
 {
-    if f.len() != w.len() {
-        return false;
-    }
-    let mut i = 0;
-    while i < f.len() {
-        if f[i] != w[i] {
-            return false;
-        }
-        i += 1;
-    }
-    true
+    f == w
 }
 
 // The code of the field among words of its own length, with one byte between two words; NO_FORM if it is none of them.
@@ -57,16 +46,13 @@ pub fn among(f: &[u8], words: &[u8], codes: &[u8]) -> u64
     requires { length codes.now * (length f.now + 1) ≤ length words.now + 1 }
     ensures { result ≡ code_among f.now words.now codes.now }
 {
-    let n = f.len();
-    let mut at: usize = 0;
-    let mut k = 0;
-    while k < codes.len() {
-        let e = at + n;
+    let mut at = 0;
+    for &code in codes {
+        let e = at + f.len();
         if same(f, &words[at..e]) {
-            return of_byte(codes[k]);
+            return u64::from(code);
         }
         at = e + 1;
-        k += 1;
     }
     codes::NO_FORM
 }

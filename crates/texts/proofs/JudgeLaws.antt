@@ -6,7 +6,7 @@ use mathlib.Core.List.{List}
 use Prim.Native.Nat.{ℕ, ◌+◌, ◌<◌, ◌≤◌}
 use native.Mathlib.Omega.{arith}
 use native.Mathlib.Decide.{dec_lt}
-use borrow.Author.Tests.{eq-eqb, ne_eqb, le-leb, lt-leb, not-true, not-false}
+use borrow.Author.Tests.{eq-eqb, ne_eqb, le-leb, lt-leb}
 use lib.ListN.{length}
 use lib.Dec.{eqb, leb}
 use Rattle.laws.specs.Lists.{all_of}
@@ -25,8 +25,6 @@ use Rattle.sheet.proofs.GoodTexts.{nodes_fresh}
 use Rattle.sheet.proofs.NodesRead.{nodes_below}
 use Rattle.sheet.proofs.AsNodeLines.{in_rule, no_node, may_be_lem}
 use Rattle.tables.specs.declared.Counts.{Counts}
-use Rattle.tables.specs.declared.Step.{Step}
-use Rattle.tables.specs.declared.Step.TheVariants as code
 use Rattle.tables.specs.Layout.{open_code, HoldsOpen, closed, opened, Holds, Fine, moved_refused}
 use Rattle.tables.proofs.Tables.{kept_refl}
 use Rattle.tables.proofs.Steps.{over_limits, out_of_order, unknown_part, calls_none, steps_on}
@@ -36,33 +34,9 @@ use Rattle.texts.specs.Gathering.{operands_within, Sums, Gathers}
 use Rattle.texts.specs.Placing.{Passed, TextPlaced}
 use Rattle.texts.specs.Judging.{text_limits, text_order, Judged}
 use Rattle.texts.proofs.PlacingLaws.{passed_true, held_open}
-
--- ---- what the code's tests answer
-
-module _ (st : Counts) (g : Gathered) where
-  pub limits_form : (n : ℕ) → not g.within ≡ true → false ≡ text_limits st g n
-  unfolding text_limits
-  limits_form n h = rw (not-true g.within h)
-
-  pub limits_nodes : (n : ℕ) → not g.within ≡ false → leb (st.nodes + n) 768 ≡ text_limits st g n
-  unfolding text_limits
-  limits_nodes n h = rw (not-false g.within h)
-
-  pub order_block : 5 < st.block → false ≡ text_order st g
-  unfolding text_order
-  order_block h = rw (lt-leb st.block 5 h)
-
-  pub order_open : st.block ≤ 5 → (st.«open» ≡ 1 → ⊥) → false ≡ text_order st g
-  unfolding text_order
-  order_open h k = rw (le-leb st.block 5 h, ne_eqb st.«open» 1 k)
-
-  pub order_first : st.block ≤ 5 → st.«open» ≡ 1 → (st.first ≡ st.nodes → ⊥) → false ≡ text_order st g
-  unfolding text_order
-  order_first h k f = rw (le-leb st.block 5 h, eq-eqb st.«open» 1 k, ne_eqb st.first st.nodes f)
-
-  pub order_apart : st.block ≤ 5 → st.«open» ≡ 1 → st.first ≡ st.nodes → g.apart ≡ text_order st g
-  unfolding text_order
-  order_apart h k f = rw (le-leb st.block 5 h, eq-eqb st.«open» 1 k, eq-eqb st.first st.nodes f)
+use Rattle.std.specs.Prelude.{Result, Err}
+use Rattle.memory.specs.declared.refusals.Refusal.{Refusal}
+use Rattle.memory.specs.declared.refusals.Refusal.TheVariants.{OutOfRow, OverMeasure, UnknownDefinition, UnknownPart}
 
 -- ---- the two agree
 
@@ -127,7 +101,7 @@ module _ {st : Counts} {line nodes : ℕ} {g : Gathered} {w0 w1 w2 : List ℕ} (
 -- ---- 4, 5, 6 and 24, and a text that meets them
 
 module _ {st : Counts} {line nodes : ℕ} (w0 w1 w2 : List ℕ) where
-  pub judge_many : 768 < nodes → Judged st line nodes (code.Refused 4) w0 w1 w2 w1
+  pub judge_many : 768 < nodes → Judged st line nodes (Err OverMeasure) w0 w1 w2 w1
   unfolding within_limits
   judge_many l = record {
     is = λ s x e z h. rw (over_limits s line (text_line x) (rw (lt-leb (length s.lines + length (nodes_of x)) 768 (omega arith)) (and-false (all_of form_within (nodes_of x))))) moved_refused;
@@ -135,7 +109,7 @@ module _ {st : Counts} {line nodes : ℕ} (w0 w1 w2 : List ℕ) where
   }
 
   module _ {g : Gathered} (low : nodes ≤ 768) (all : Gathers line nodes w2 g) (fine : Fine st) where
-    pub judge_4 : {b : Bool} → b ≡ text_limits st g nodes → b ≡ false → Judged st line nodes (code.Refused 4) w0 w1 w2 w1
+    pub judge_4 : {b : Bool} → b ≡ text_limits st g nodes → b ≡ false → Judged st line nodes (Err OverMeasure) w0 w1 w2 w1
     judge_4 {b} told q = record {
       is = λ s x e z h. rw (over_limits s line (text_line x) (sym (limits_same all fine x e (z low) h) ∙ sym told ∙ q)) moved_refused;
       kept = kept_refl w1;
@@ -145,7 +119,7 @@ module _ {st : Counts} {line nodes : ℕ} (w0 w1 w2 : List ℕ) where
       is_within : text_limits st g nodes ≡ true
       is_within = sym told ∙ ok
 
-      pub judge_5 : {d : Bool} → d ≡ text_order st g → d ≡ false → Judged st line nodes (code.Refused 5) w0 w1 w2 w1
+      pub judge_5 : {d : Bool} → d ≡ text_order st g → d ≡ false → Judged st line nodes (Err OutOfRow) w0 w1 w2 w1
       judge_5 {d} f q = record {
         is = λ s x e z h. rw (out_of_order s line (text_line x) (sym (limits_same all fine x e (z low) h) ∙ is_within) (sym (order_same all fine x e (z low) h is_within) ∙ sym f ∙ q)) moved_refused;
         kept = kept_refl w1;
@@ -155,7 +129,7 @@ module _ {st : Counts} {line nodes : ℕ} (w0 w1 w2 : List ℕ) where
         ordered : text_order st g ≡ true
         ordered = sym f ∙ so
 
-        pub judge_6 : st.classes < g.classes → Judged st line nodes (code.Refused 6) w0 w1 w2 w1
+        pub judge_6 : st.classes < g.classes → Judged st line nodes (Err UnknownPart) w0 w1 w2 w1
         judge_6 l = record {
           is = λ s x e z h.
               rw (unknown_part s line (text_line x) (sym (limits_same all fine x e (z low) h) ∙ is_within) (sym (order_same all fine x e (z low) h is_within) ∙ ordered)
@@ -172,7 +146,7 @@ module _ {st : Counts} {line nodes : ℕ} (w0 w1 w2 : List ℕ) where
             calls = sym (called_same all fine x e z h is_within low ordered) ∙ le-leb g.calls st.definitions m;
           }
 
-          pub judge_24 : st.definitions < g.calls → Judged st line nodes (code.Refused 24) w0 w1 w2 w1
+          pub judge_24 : st.definitions < g.calls → Judged st line nodes (Err UnknownDefinition) w0 w1 w2 w1
           unfolding calls_smaller
           judge_24 l = record {
             is = λ s x e z h.
@@ -182,7 +156,7 @@ module _ {st : Counts} {line nodes : ℕ} (w0 w1 w2 : List ℕ) where
             kept = kept_refl w1;
           }
 
-          pub judge_on : {r : Step} {v1 : List ℕ} → g.calls ≤ st.definitions → TextPlaced st line nodes r w0 w1 w2 v1 → Judged st line nodes r w0 w1 w2 v1
+          pub judge_on : {r : Result Counts Refusal} {v1 : List ℕ} → g.calls ≤ st.definitions → TextPlaced st line nodes r w0 w1 w2 v1 → Judged st line nodes r w0 w1 w2 v1
           unfolding calls_smaller suits tree_holds
           judge_on m t = record {
             is = λ s x e z h. let p = passed s x e (z low) h m in rw (steps_on s line (text_line x) refl p.calls p.limits p.order p.parts refl refl) (t.is s x e (z low) h p);

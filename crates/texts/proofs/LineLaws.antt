@@ -17,17 +17,17 @@ use Rattle.sheet.proofs.AsNodeLines.{nodes_of_lem}
 use Rattle.text.specs.Parts.{Cut}
 use Rattle.text.specs.declared.parts.Fields.{Fields}
 use Rattle.tables.specs.declared.Counts.{Counts}
-use Rattle.tables.specs.declared.Step.{Step}
-use Rattle.tables.specs.declared.Step.TheVariants as code
 use Rattle.tables.specs.Layout.{moved_refused}
 use Rattle.tables.proofs.Tables.{kept_refl}
 use Rattle.tables.proofs.LineFields.{word_is}
 use Rattle.tables.proofs.Steps.{step_bad}
 use Rattle.emission.specs.Nodes.{HoldsNodes}
-use Rattle.importer.specs.declared.Imported.TheVariants as imported
 use Rattle.importer.specs.Imports.{SentenceIs, ImportedAs, no_sentence, a_sentence, Imports}
 use Rattle.texts.specs.Placing.{HeldNodes}
 use Rattle.texts.specs.Judging.{Judged, TookText}
+use Rattle.std.specs.Prelude.{Some, None, Result, Err}
+use Rattle.memory.specs.declared.refusals.Refusal.{Refusal}
+use Rattle.memory.specs.declared.refusals.Refusal.TheVariants.{BadLine, NotASentence, OverMeasure}
 
 -- ---- the fields
 
@@ -47,19 +47,19 @@ two_fields (w ∷ a ∷ b ∷ fs) h n = absurd (omega arith)
 
 -- ---- a text that the importer has read
 
-pub no_sentence_is : {k : ℕ} {s : Bytes} {u v : List ℕ} → Imports k s u imported.No v → is_sentence s ≡ false
+pub no_sentence_is : {k : ℕ} {s : Bytes} {u v : List ℕ} → Imports k s u None v → is_sentence s ≡ false
 no_sentence_is i = go i.is
   where
-    go : {k : ℕ} {s : Bytes} {v : List ℕ} → ImportedAs k s v imported.No → is_sentence s ≡ false
+    go : {k : ℕ} {s : Bytes} {v : List ℕ} → ImportedAs k s v None → is_sentence s ≡ false
     go (no_sentence e) = e
 
-sentence_is : {k n : ℕ} {s : Bytes} {u v : List ℕ} → Imports k s u (imported.Is n) v → SentenceIs k s n v
+sentence_is : {k n : ℕ} {s : Bytes} {u v : List ℕ} → Imports k s u (Some n) v → SentenceIs k s n v
 sentence_is i = go i.is
   where
-    go : {k n : ℕ} {s : Bytes} {v : List ℕ} → ImportedAs k s v (imported.Is n) → SentenceIs k s n v
+    go : {k n : ℕ} {s : Bytes} {v : List ℕ} → ImportedAs k s v (Some n) → SentenceIs k s n v
     go (a_sentence x) = x
 
-module _ {k n : ℕ} {s : Bytes} {u v : List ℕ} (i : Imports k s u (imported.Is n) v) where
+module _ {k n : ℕ} {s : Bytes} {u v : List ℕ} (i : Imports k s u (Some n) v) where
   its_tree : SentenceIs k s n v
   its_tree = sentence_is i
 
@@ -79,7 +79,7 @@ module _ {k n : ℕ} {s : Bytes} {u v : List ℕ} (i : Imports k s u (imported.I
 -- ---- 3, the brackets' 4, 20, and a text that is judged
 
 module _ {line : List ℕ} {f : Fields} (cut_up : Cut line f) (starts : is (get_or (fields_of line) 0 []) (bytes "X") ≡ true) where
-  pub line_fields : {st : Counts} {k : ℕ} {w0 w1 w2 : List ℕ} → (f.count ≡ 2 → ⊥) → TookText st k line (code.Refused 3) w0 w1 w2 w1 w2
+  pub line_fields : {st : Counts} {k : ℕ} {w0 w1 w2 : List ℕ} → (f.count ≡ 2 → ⊥) → TookText st k line (Err BadLine) w0 w1 w2 w1 w2
   line_fields {k = k} {w0} {w1} {w2} h = record {
     took = record {
       is = λ s z. rw (step_bad s k (fields_of line) (other_fields (fields_of line) starts (λ e. h (omega (arith, cut_up.counted))))) moved_refused;
@@ -94,7 +94,7 @@ module _ {line : List ℕ} {f : Fields} (cut_up : Cut line f) (starts : is (get_
     spelled = two_fields (fields_of line) starts (omega (arith, cut_up.counted)) ∙ rw field
 
     module _ {b : Bool} (told : b ≡ brackets_within x) where
-      pub line_brackets : {st : Counts} {k : ℕ} {w0 w1 w2 : List ℕ} → b ≡ false → TookText st k line (code.Refused 4) w0 w1 w2 w1 w2
+      pub line_brackets : {st : Counts} {k : ℕ} {w0 w1 w2 : List ℕ} → b ≡ false → TookText st k line (Err OverMeasure) w0 w1 w2 w1 w2
       unfolding step step_spelled on_text must
       line_brackets {k = k} {w0} {w1} {w2} h = record {
         took = record { is = λ s z. rw (open_many s) moved_refused; kept0 = kept_refl w0; kept1 = kept_refl w1 };
@@ -105,7 +105,7 @@ module _ {line : List ℕ} {f : Fields} (cut_up : Cut line f) (starts : is (get_
           open_many s = rw (spelled, ← told, h)
 
       module _ (few : b ≡ true) where
-        pub line_sentence : {st : Counts} {k : ℕ} {w0 w1 u2 v2 : List ℕ} → Imports k x u2 imported.No v2 → TookText st k line (code.Refused 20) w0 w1 u2 w1 v2
+        pub line_sentence : {st : Counts} {k : ℕ} {w0 w1 u2 v2 : List ℕ} → Imports k x u2 None v2 → TookText st k line (Err NotASentence) w0 w1 u2 w1 v2
         unfolding step step_spelled on_text must
         line_sentence {k = k} {w0} {w1} i = record {
           took = record { is = λ s z. rw (no_reading s) moved_refused; kept0 = kept_refl w0; kept1 = kept_refl w1 };
@@ -115,7 +115,7 @@ module _ {line : List ℕ} {f : Fields} (cut_up : Cut line f) (starts : is (get_
             no_reading : (s : Sheet) → step s k (fields_of line) ≡ refuse 20
             no_reading s = rw (spelled, ← told, few, no_sentence_is i)
 
-        pub line_judged : {st : Counts} {k n : ℕ} {r : Step} {w0 w1 v1 u2 v2 : List ℕ} → Imports k x u2 (imported.Is n) v2 → Judged st k n r w0 w1 v2 v1 → TookText st k line r w0 w1 u2 v1 v2
+        pub line_judged : {st : Counts} {k n : ℕ} {r : Result Counts Refusal} {w0 w1 v1 u2 v2 : List ℕ} → Imports k x u2 (Some n) v2 → Judged st k n r w0 w1 v2 v1 → TookText st k line r w0 w1 u2 v1 v2
         unfolding step step_spelled on_text must
         line_judged {k = k} {w0 = w0} i j = record {
           took = record { is = λ s y. rw (goes_on s) (j.is s x (as_many i) (its_nodes i) y); kept0 = kept_refl w0; kept1 = j.kept };

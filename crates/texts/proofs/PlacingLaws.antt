@@ -18,8 +18,6 @@ use Rattle.sheet.specs.Reading.{Step, taken, must, step_line, step_spelled}
 use Rattle.sheet.proofs.NodesRead.{with_open, is_open, Ready, node_taken, ready_later, one_more}
 use Rattle.sheet.proofs.AsNodeLines.{in_rule, no_node, may_be_lem, text_ready, text_added}
 use Rattle.tables.specs.declared.Counts.{Counts}
-use Rattle.tables.specs.declared.Step.{Step as CodeStep}
-use Rattle.tables.specs.declared.Step.TheVariants as code
 use Rattle.tables.specs.Layout.{open_code, HoldsCurrent, HoldsOpen, closed, opened, Holds, Fine, Kept, Moved, moved_next, moved_refused}
 use Rattle.tables.proofs.Tables.{kept_refl, kept_then}
 use Rattle.tables.proofs.Entries.{tables_same, definitions_same}
@@ -28,6 +26,8 @@ use Rattle.shapes.specs.Fields.{cut}
 use Rattle.trees.specs.Rules.{Placed}
 use Rattle.emission.specs.Nodes.{parsed_in, NodeIs, HoldsNodes}
 use Rattle.texts.specs.Placing.{HeldNodes, text_counts, Passed, TextPlaced}
+use Rattle.std.specs.Prelude.{Result, Ok, Err}
+use Rattle.memory.specs.declared.refusals.Refusal.{Refusal}
 
 -- ---- a node that waits, as crates/trees wants it
 
@@ -176,21 +176,21 @@ pub record Placing (st : Counts) (line nodes : ℕ) (w0 w1 w2 : List ℕ) (su : 
 pub placing_start : (line nodes : ℕ) (w0 w1 w2 : List ℕ) {st : Counts} → Fine st → Placing st line nodes w0 w1 w2 st 0 w1
 placing_start line nodes w0 w1 w2 f = record { is = λ s x e z h q. along_start s x line h q; fine = f; kept = kept_refl w1 }
 
-went_on : {w0 v1 : List ℕ} {r : CodeStep} {su : Counts} {x : Step} {t : Sheet} → Moved w0 v1 r x → r ≡ code.Next su → x ≡ taken t → Holds su w0 v1 t
+went_on : {w0 v1 : List ℕ} {r : Result Counts Refusal} {su : Counts} {x : Step} {t : Sheet} → Moved w0 v1 r x → r ≡ Ok su → x ≡ taken t → Holds su w0 v1 t
 went_on {w0} {v1} {su = su} {t = t} (moved_next {st = sv} {s = s} f h) d e =
     let p : sv ≡ su = cc in
     let q : s ≡ t = cc in
     subst (λ y. Holds y w0 v1 t) p (subst (Holds sv w0 v1) q h)
 went_on moved_refused d e = absurd (let q : ◌≡◌ {A = ℕ} 0 1 = cc in omega arith)
 
-not_stopped : {w0 v1 : List ℕ} {r : CodeStep} {n : ℕ} {x : Step} {t : Sheet} → Moved w0 v1 r x → r ≡ code.Refused n → x ≡ taken t → ⊥
+not_stopped : {w0 v1 : List ℕ} {r : Result Counts Refusal} {n : Refusal} {x : Step} {t : Sheet} → Moved w0 v1 r x → r ≡ Err n → x ≡ taken t → ⊥
 not_stopped (moved_next f h) d e = let q : ◌≡◌ {A = ℕ} 0 1 = cc in omega arith
 not_stopped moved_refused d e = let q : ◌≡◌ {A = ℕ} 0 1 = cc in omega arith
 
-text_moved : {w0 v1 : List ℕ} {su sv : Counts} {t : Sheet} → sv ≡ su → Fine su → Holds su w0 v1 t → Moved w0 v1 (code.Next sv) (taken t)
-text_moved {w0} {v1} {t = t} e f h = subst (λ y. Moved w0 v1 (code.Next y) (taken t)) (sym e) (moved_next f h)
+text_moved : {w0 v1 : List ℕ} {su sv : Counts} {t : Sheet} → sv ≡ su → Fine su → Holds su w0 v1 t → Moved w0 v1 (Ok sv) (taken t)
+text_moved {w0} {v1} {t = t} e f h = subst (λ y. Moved w0 v1 (Ok y) (taken t)) (sym e) (moved_next f h)
 
-module _ {st su : Counts} {line nodes i : ℕ} {w0 w1 w2 v1 u1 : List ℕ} {p : Parsed} {r : CodeStep} (so : Placing st line nodes w0 w1 w2 su i v1) (l : i < nodes) (low : nodes ≤ 768)
+module _ {st su : Counts} {line nodes i : ℕ} {w0 w1 w2 v1 u1 : List ℕ} {p : Parsed} {r : Result Counts Refusal} (so : Placing st line nodes w0 w1 w2 su i v1) (l : i < nodes) (low : nodes ≤ 768)
     (told : p ≡ parsed_in line w2 i) (done : Placed su i p r w0 v1 u1) where
   module _ (s : Sheet) (x : Bytes) (e : length (nodes_of x) ≡ nodes) (z : HoldsNodes line (nodes_of x) w2) (a : Along s line i (nodes_of x) su w0 v1) where
     here : i < length (nodes_of x)
@@ -201,7 +201,7 @@ module _ {st su : Counts} {line nodes i : ℕ} {w0 w1 w2 v1 u1 : List ℕ} {p : 
         done.is line (with_open s a.lines a.body) i (get_or (nodes_of x) i (leaf undef)) (let q : i ≡ cut i = omega arith in q)
         (subst (λ y. NodeIs line (get_or (nodes_of x) i (leaf undef)) y) (sym told) (z.at i here)).stands a.holds
 
-  pub placing_next : {sv : Counts} → r ≡ code.Next sv → Placing st line nodes w0 w1 w2 sv (i + 1) u1
+  pub placing_next : {sv : Counts} → r ≡ Ok sv → Placing st line nodes w0 w1 w2 sv (i + 1) u1
   placing_next {sv} d = record {
     is = λ s x e z h q.
         let a = so.is s x e z h q in
@@ -210,7 +210,7 @@ module _ {st su : Counts} {line nodes i : ℕ} {w0 w1 w2 v1 u1 : List ℕ} {p : 
     kept = kept_then so.kept done.kept;
   }
 
-  pub placing_stop : {m : ℕ} → r ≡ code.Refused m → TextPlaced st line nodes (code.Refused m) w0 w1 w2 u1
+  pub placing_stop : {m : Refusal} → r ≡ Err m → TextPlaced st line nodes (Err m) w0 w1 w2 u1
   placing_stop d = record {
     is = λ s x e z h q.
         let a = so.is s x e z h q in
@@ -218,7 +218,7 @@ module _ {st su : Counts} {line nodes i : ℕ} {w0 w1 w2 v1 u1 : List ℕ} {p : 
     kept = kept_then so.kept done.kept;
   }
 
-pub placing_end : {st su sv : Counts} {line nodes i : ℕ} {w0 w1 w2 v1 : List ℕ} → Placing st line nodes w0 w1 w2 su i v1 → i ≤ nodes → nodes ≤ i → sv ≡ text_counts su → TextPlaced st line nodes (code.Next sv) w0 w1 w2 v1
+pub placing_end : {st su sv : Counts} {line nodes i : ℕ} {w0 w1 w2 v1 : List ℕ} → Placing st line nodes w0 w1 w2 su i v1 → i ≤ nodes → nodes ≤ i → sv ≡ text_counts su → TextPlaced st line nodes (Ok sv) w0 w1 w2 v1
 placing_end so l m d = record {
   is = λ s x e z h q. text_moved d (text_fine so.fine) (along_end x (so.is s x e z h q) (omega arith));
   kept = so.kept;

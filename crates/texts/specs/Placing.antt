@@ -1,5 +1,5 @@
 -- What the code promises of a text's nodes that go into the node table.
-use Rattle.std.specs.Prelude.{◌≡◌, true, List, ℕ, length}
+use Rattle.std.specs.Prelude.{◌≡◌, true, List, ℕ, length, Result}
 use Rattle.memory.specs.Lines as lines
 use Rattle.sheet.specs.Text.{Bytes}
 use Rattle.sheet.specs.Lines.{Shape, text_line}
@@ -9,9 +9,9 @@ use Rattle.sheet.specs.Limits.{within_limits}
 use Rattle.sheet.specs.Refusals.{in_order, parts_known, calls_known}
 use Rattle.sheet.specs.Reading.{taken}
 use Rattle.tables.specs.declared.Counts.{Counts}
-use Rattle.tables.specs.declared.Step.{Step}
 use Rattle.tables.specs.Layout.{Holds, Kept, Moved}
 use Rattle.emission.specs.Nodes.{HoldsNodes}
+use Rattle.memory.specs.declared.refusals.Refusal.{Refusal}
 
 -- so many nodes wait, each of which stands for a form
 pub record HeldNodes (line nodes : ℕ) (w2 : List ℕ) : Type 0 where
@@ -45,6 +45,6 @@ pub record Passed (s : Sheet) (x : Bytes) : Type 0 where
   pub calls : calls_known s (text_line x) ≡ true
 
 -- the nodes of such a text, which wait in w2, are added; the words were w0 and w1 and are w0 and v1
-pub record TextPlaced (st : Counts) (line nodes : ℕ) (r : Step) (w0 w1 w2 v1 : List ℕ) : Type 0 where
+pub record TextPlaced (st : Counts) (line nodes : ℕ) (r : Result Counts Refusal) (w0 w1 w2 v1 : List ℕ) : Type 0 where
   pub is : (s : Sheet) (x : Bytes) → length (nodes_of x) ≡ nodes → HoldsNodes line (nodes_of x) w2 → Holds st w0 w1 s → Passed s x → Moved w0 v1 r (taken (added s line (text_line x)))
   pub kept : Kept w1 v1

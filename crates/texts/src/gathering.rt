@@ -5,7 +5,6 @@ ghost use Rattle.trees.specs.Calls.{calls_in};
 ghost use Rattle.texts.specs.Gathering.{joined, Gathers};
 
 use emission::emitted;
-use memory::words::larger;
 use shapes::Parsed;
 use trees::calls::is_call;
 
@@ -17,12 +16,6 @@ pub struct Gathered {
     pub apart: bool,
     pub classes: u64,
     pub calls: u64,
-}
-
-fn both(a: bool, b: bool) -> bool
-    ensures { result ≡ a && b }
-{
-    if a { b } else { false }
 }
 
 // More definitions than there may be.
@@ -48,12 +41,11 @@ fn with_node(g: Gathered, p: Parsed) -> Gathered
     requires { length p.words ≡ 8 }
     ensures { result ≡ joined g p }
 {
-    let words = p.words;
     Gathered {
-        within: both(g.within, p.within),
-        apart: both(g.apart, p.apart),
-        classes: larger(g.classes, p.classes),
-        calls: larger(g.calls, called(words, p.count)),
+        within: g.within && p.within,
+        apart: g.apart && p.apart,
+        classes: g.classes.max(p.classes),
+        calls: g.calls.max(called(p.words, p.count)),
     }
 }
 
@@ -68,10 +60,8 @@ pub fn gather(w2: &[u64], nodes: usize, k: u64) -> Gathered
         classes: 0,
         calls: 0,
     };
-    let mut i: usize = 0;
-    while i < nodes {
+    for i in 0..nodes {
         g = with_node(g, emitted(w2, i, k));
-        i += 1;
     }
     g
 }

@@ -9,8 +9,8 @@ ghost use Rattle.texts.specs.Judging.{TookText};
 
 use super::judging::judge;
 use descent::import;
-use importer::Imported;
-use tables::{Counts, Step};
+use memory::refusals::Refusal;
+use tables::Counts;
 use text::parts::{Fields, field};
 use tokens::few_open;
 
@@ -23,19 +23,19 @@ pub fn text_line(
     w2: &mut [u64],
     st: Counts,
     k: u64,
-) -> Step
+) -> Result<Counts, Refusal>
     requires { Cut line.now f × (is (get_or (fields_of line.now) 0 []) (bytes "X") ≡ true) × (least_words ≤ length w0.now) × (least_words ≤ length w1.old) × (least_words ≤ length w2.old) × Fine st }
     ensures { TookText st k line.now result w0.now w1.old w2.old w1.new w2.new }
 {
     if f.count != 2 {
-        return Step::Refused(3);
+        return Err(Refusal::BadLine);
     }
     let text = field(line, f, 1);
     if !few_open(text) {
-        return Step::Refused(4);
+        return Err(Refusal::OverMeasure);
     }
-    let Imported::Is { nodes } = import(text, w2, k) else {
-        return Step::Refused(20);
+    let Some(nodes) = import(text, w2, k) else {
+        return Err(Refusal::NotASentence);
     };
     judge(w0, w1, w2, st, nodes, k)
 }

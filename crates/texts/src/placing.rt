@@ -6,35 +6,35 @@ ghost use Rattle.texts.specs.Placing.{HeldNodes, text_counts, TextPlaced};
 
 use emission::emitted;
 use memory::lines;
-use tables::{Counts, Step};
+use memory::refusals::Refusal;
+use tables::Counts;
 use trees::node::place_node;
 
 // The counts once an X line has given the open rule's nodes.
 fn with_text(st: Counts) -> Counts
     ensures { result ≡ text_counts st }
 {
-    let mut next = st;
-    next.open = lines::TEXT_GIVEN;
-    next
+    Counts {
+        open: lines::TEXT_GIVEN,
+        ..st
+    }
 }
 
 // Puts the first `nodes` nodes that wait in w2. Those of a text make a tree, so that none is refused once all have been judged.
-pub fn place(w0: &[u64], w1: &mut [u64], w2: &[u64], st: Counts, nodes: usize, k: u64) -> Step
+pub fn place(
+    w0: &[u64],
+    w1: &mut [u64],
+    w2: &[u64],
+    st: Counts,
+    nodes: usize,
+    k: u64,
+) -> Result<Counts, Refusal>
     requires { (least_words ≤ length w0.now) × (least_words ≤ length w1.old) × (least_words ≤ length w2.now) × Fine st × (nodes ≤ most_nodes) × HeldNodes k nodes w2.now }
     ensures { TextPlaced st k nodes result w0.now w1.old w2.now w1.new }
 {
     let mut on = st;
-    let mut i: usize = 0;
-    while i < nodes {
-        match place_node(w0, w1, on, i as u64, emitted(w2, i, k)) {
-            Step::Refused(n) => {
-                return Step::Refused(n);
-            }
-            Step::Next(next) => {
-                on = next;
-            }
-        }
-        i += 1;
+    for i in 0..nodes {
+        on = place_node(w0, w1, on, i as u64, emitted(w2, i, k))?;
     }
-    Step::Next(with_text(on))
+    Ok(with_text(on))
 }

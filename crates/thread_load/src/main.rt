@@ -2,10 +2,11 @@
 #![tactic(auto)]
 
 use load::reader::{Reader, feed, put_answer, start};
+use load::refusal::Refused;
 use std::io;
 use std::io::Read;
 
-fn print_answer(rt: &(impl Print + Eprint), s: Reader) -> io::Result<()> {
+fn print_answer(rt: &(impl Print + Eprint), s: Result<Reader, Refused>) -> io::Result<()> {
     let mut out: [u8; 64] = [0; 64];
     let end = put_answer(s, &mut out);
     if let Err(e) = rt.write_all(&out[..end]) {
@@ -19,12 +20,12 @@ fn print_answer(rt: &(impl Print + Eprint), s: Reader) -> io::Result<()> {
 fn main(rt: HostRuntime) -> io::Result<()> {
     let mut piece: [u8; 8192] = [0; 8192];
     let mut input = rt.stdin();
-    let mut s = start();
+    let mut s = Ok(start());
     for _ in 0..u64::MAX {
         match input.read(&mut piece) {
             Ok(n) => {
                 s = feed(s, &piece[..n]);
-                if n == 0 || s.number != 0 {
+                if n == 0 || s.is_err() {
                     return print_answer(&rt, s);
                 }
             }

@@ -38,9 +38,6 @@ module _ (k d : ℕ) where
   closed (inr (inl e)) = rw e
   closed (inr (inr e)) = rw e
 
-  pub closes_none : (k ≡ 41) ⊎ ((k ≡ 43) ⊎ (k ≡ 53)) → d ≡ 0 → 0 ≡ open_after k d
-  closes_none h e = ap pred (sym e) ∙ closed h
-
   pub closes_one : (k ≡ 41) ⊎ ((k ≡ 43) ⊎ (k ≡ 53)) → d - 1 ≡ open_after k d
   closes_one h = less_one d ∙ closed h
 

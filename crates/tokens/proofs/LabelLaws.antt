@@ -1,33 +1,28 @@
 -- Laws of `label`, one for each return. Assumes nothing.
-use mathlib.Core.Path.{◌≡◌}
+use mathlib.Core.Path.{◌≡◌, refl}
 use mathlib.Core.Logic.{◌≢◌}
-use mathlib.Core.List.{◌∷◌}
-use Prim.Native.Nat.{ℕ, ◌+◌}
+use mathlib.Core.List.{[], ◌∷◌}
+use Prim.Native.Nat.{ℕ, ◌-◌, ◌<◌, ◌≤◌}
 use native.Mathlib.Omega.{arith}
 use borrow.Author.Tests.{eq-eqb, ne_eqb}
-use lib.ListN.{get_or}
-use Rattle.laws.proofs.Parts.{part_next, part_none}
+use lib.ListN.{length, get_or, take, drop}
+use Rattle.laws.proofs.Parts.{at_next, part_all}
 use Rattle.sheet.specs.Text.{Bytes}
 use Rattle.sheet.specs.Lines.{a_number}
 use Rattle.sheet.specs.Grammar.Words.{labelled}
 use Rattle.text.specs.Numbers.{cut_num}
-use Rattle.text.specs.declared.numbers.Num.{Num}
-use Rattle.text.specs.declared.numbers.Num.TheVariants.{Bad}
-use Rattle.tokens.specs.Meanings.{part, Ahead}
-use Rattle.tokens.specs.declared.Token.{Token}
+use Rattle.std.specs.Prelude.{Option as Optional, None}
 
-pub label_none : (s : Bytes) (a e l : ℕ) → a ≡ e → Bad ≡ cut_num (labelled l (part s a e))
+pub label_none : (l : ℕ) (w : Bytes) → length w < 1 → None ≡ cut_num (labelled l w)
 unfolding cut_num labelled
-label_none s a e l h = rw (part_none s a e (omega arith))
+label_none l [] h = refl
+label_none l (b ∷ w) h = absurd (omega arith)
 
-module _ (s : Bytes) (t : Token) (l : ℕ) (h : Ahead s t) (n : t.start ≢ t.end) where
-  nonempty : part s t.start t.end ≡ get_or s t.start 0 ∷ part s (t.start + 1) t.end
-  nonempty = part_next 0 s t.start t.end (let p = h.order in omega arith) h.within
-
-  pub label_other : get_or s t.start 0 ≢ l → Bad ≡ cut_num (labelled l (part s t.start t.end))
+module _ (l : ℕ) (w : Bytes) (n : 1 ≤ length w) where
+  pub label_other : get_or w 0 0 ≢ l → None ≡ cut_num (labelled l w)
   unfolding cut_num labelled
-  label_other q = rw (nonempty, ne_eqb _ _ q)
+  label_other q = rw (at_next 0 w 0 n, ne_eqb _ _ q)
 
-  pub label_here : {r : Num} → get_or s t.start 0 ≡ l → r ≡ cut_num (a_number (part s (t.start + 1) t.end)) → r ≡ cut_num (labelled l (part s t.start t.end))
+  pub label_here : {r : Optional ℕ} → get_or w 0 0 ≡ l → r ≡ cut_num (a_number (take (length w - 1) (drop 1 w))) → r ≡ cut_num (labelled l w)
   unfolding labelled
-  label_here q e = rw (nonempty, eq-eqb (get_or s t.start 0) l q) e
+  label_here q e = rw (at_next 0 w 0 n, eq-eqb (get_or w 0 0) l q) (rw (part_all w 1) at e)

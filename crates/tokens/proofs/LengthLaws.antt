@@ -39,11 +39,6 @@ unfolding code_in of_length rows codes bytes is
 byte_other b a' b' c' d' e' f' g' h' i' j' k' l' m' n' o' p' q' r' s' =
     other_code (b ∷ []) refl (sym (named_rows codes (b ∷ [])) ∙ sym (by_length (b ∷ []) (rows codes)) ∙ simp (ne_eqb _ _ a', ne_eqb _ _ b', ne_eqb _ _ c', ne_eqb _ _ d', ne_eqb _ _ e', ne_eqb _ _ f', ne_eqb _ _ g', ne_eqb _ _ h', ne_eqb _ _ i', ne_eqb _ _ j', ne_eqb _ _ k', ne_eqb _ _ l', ne_eqb _ _ m', ne_eqb _ _ n', ne_eqb _ _ o', ne_eqb _ _ p', ne_eqb _ _ q', ne_eqb _ _ r', ne_eqb _ _ s'))
 
-pub one_byte : (f : Bytes) → length f ≡ 1 → get_or f 0 0 ∷ [] ≡ f
-one_byte [] h = absurd (omega arith)
-one_byte (b ∷ []) h = refl
-one_byte (b ∷ c ∷ s) h = absurd (omega arith)
-
 -- ---- a word that begins with a digit or `#`
 
 unfoldable begins : ℕ → Bool

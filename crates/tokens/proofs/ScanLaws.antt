@@ -21,11 +21,6 @@ module _ (p : Bool) (b d : ℕ) where
   opening (inl e) = rw (e, add-one)
   opening (inr e) = rw (e, add-one)
 
-  pub closing_none : (b ≡ 41) ⊎ (b ≡ 125) → d ≡ 0 → 0 ≡ open_by p b d
-  unfolding open_by
-  closing_none (inl e) z = rw (e, z)
-  closing_none (inr e) z = rw (e, z)
-
   pub closing : (b ≡ 41) ⊎ (b ≡ 125) → d - 1 ≡ open_by p b d
   unfolding open_by
   closing (inl e) = rw e (less_one d)

@@ -1,15 +1,17 @@
 -- Laws of tokens at a place of a text. Assumes nothing.
 use mathlib.Core.Path.{◌≡◌, refl, sym, ap, ◌∙◌}
 use mathlib.Core.Logic.{◌≢◌}
-use mathlib.Core.Bool.{Bool, true, false, ◌&&◌, true≢false}
+use mathlib.Core.Bool.{Bool, true, false, ◌&&◌, ◌||◌, true≢false}
 use mathlib.Core.List.{[], ◌∷◌}
 use Prim.Native.Nat.{ℕ, suc, ◌+◌, ◌-◌, ◌<◌, ◌≤◌}
 use native.Mathlib.Omega.{arith}
-use borrow.Author.Tests.{ne_eqb, eqb-true, le-leb, lt-leb}
+use borrow.Author.Tests.{eq-eqb, ne_eqb, eqb-true, eqb-false}
 use lib.Dec.{eqb, leb}
+use lib.Pointwise.{pointwise}
 use lib.ListN.{length, get_or, take, drop, drop_of_length-le, length-drop}
 use lib.Seq.{drop-drop}
-use Rattle.laws.proofs.Parts.{at_next, part_next}
+use Rattle.std.specs.Char.{is_ascii_alphanumeric}
+use Rattle.laws.proofs.Parts.{at_next, part_all, part_next}
 use Rattle.sheet.specs.Text.{Bytes, onto, is_digit}
 use Rattle.sheet.specs.Grammar.Tokens.{tokens, in_word, joins}
 use Rattle.tokens.specs.Meanings.{Skipped, run, RunEnds, arrow_in, arrow_at, TokenEnds, part, onward, NextIs}
@@ -138,47 +140,51 @@ sign_ends s at h n w a =
 
 -- ---- the turns of the functions
 
-pub below_range : (b low high : ℕ) → b < low → false ≡ (leb low b && leb b high)
-below_range b low high h = rw (lt-leb low b h)
+-- a letter, a digit or `#`
+word_told : (b : ℕ) → (is_ascii_alphanumeric b || eqb b 35) ≡ in_word b
+unfolding in_word is_digit
+word_told b = go (leb 48 b && leb b 57) (leb 65 b && leb b 90) (leb 97 b && leb b 122) (eqb b 35)
+  where
+    go : (d u l h : Bool) → (((d || u) || l) || h) ≡ (d || l || u || h)
+    go true u l h = refl
+    go false true true h = refl
+    go false true false h = refl
+    go false false true h = refl
+    go false false false h = refl
 
-pub in_range : (b low high : ℕ) → low ≤ b → leb b high ≡ (leb low b && leb b high)
-in_range b low high h = rw (le-leb low b h)
+module _ (b : ℕ) {x : Bool} (e : x ≡ is_ascii_alphanumeric b) where
+  pub letter_in : x ≡ true → x ≡ in_word b
+  letter_in t = t ∙ ap (λ (u : Bool). u || eqb b 35) (sym t ∙ e) ∙ word_told b
 
-module _ (b : ℕ) where
-  pub digit_in : {x : Bool} → x ≡ (leb 48 b && leb b 57) → x ≡ true → true ≡ in_word b
-  unfolding in_word is_digit
-  digit_in e t = let d = sym e ∙ t in rw d
+  pub hash_in : x ≡ false → eqb b 35 ≡ in_word b
+  hash_in t = ap (λ (u : Bool). u || eqb b 35) (sym t ∙ e) ∙ word_told b
 
-  pub lower_in : {x y : Bool} → x ≡ (leb 48 b && leb b 57) → x ≡ false → y ≡ (leb 97 b && leb b 122) → y ≡ true → true ≡ in_word b
-  unfolding in_word is_digit
-  lower_in e t f u = let d = sym e ∙ t in let g = sym f ∙ u in rw (d, g)
+turned : (a b : ℕ) → eqb a b ≡ eqb b a
+turned a b = go (eqb a b) refl
+  where
+    go : (x : Bool) → eqb a b ≡ x → x ≡ eqb b a
+    go true e = sym (eq-eqb b a (sym (eqb-true a b e)))
+    go false e = sym (ne_eqb b a (λ q. eqb-false a b e (sym q)))
 
-  pub upper_in : {x y z : Bool} → x ≡ (leb 48 b && leb b 57) → x ≡ false → y ≡ (leb 97 b && leb b 122) → y ≡ false
-      → z ≡ (leb 65 b && leb b 90) → z ≡ true → true ≡ in_word b
-  unfolding in_word is_digit
-  upper_in e t f u k v = let d = sym e ∙ t in let g = sym f ∙ u in let l = sym k ∙ v in rw (d, g, l)
+arrow_told : (l : Bytes) → pointwise eqb (45 ∷ 62 ∷ []) (take 2 l) ≡ arrow_in l
+unfolding arrow_in
+arrow_told [] = refl
+arrow_told (b ∷ []) = go (eqb 45 b)
+  where
+    go : (x : Bool) → (x && false) ≡ false
+    go true = refl
+    go false = refl
+arrow_told (b ∷ c ∷ s) = rw (turned 45 b, turned 62 c) (go (eqb b 45) (eqb c 62))
+  where
+    go : (x y : Bool) → (x && (y && true)) ≡ (x && y)
+    go true true = refl
+    go true false = refl
+    go false y = refl
 
-  pub hash_in : {x y z : Bool} → x ≡ (leb 48 b && leb b 57) → x ≡ false → y ≡ (leb 97 b && leb b 122) → y ≡ false
-      → z ≡ (leb 65 b && leb b 90) → z ≡ false → eqb b 35 ≡ in_word b
-  unfolding in_word is_digit
-  hash_in e t f u k v = let d = sym e ∙ t in let g = sym f ∙ u in let l = sym k ∙ v in rw (d, g, l)
-
-module _ (s : Bytes) (at : ℕ) (h : at < length s) where
-  pub no_minus : get_or s at 0 ≢ 45 → false ≡ arrow_at s at
-  unfolding arrow_at arrow_in
-  no_minus n = rw (at_next 0 s at h) (go (drop (at + 1) s))
-    where
-      go : (l : Bytes) → false ≡ arrow_in (get_or s at 0 ∷ l)
-      go [] = refl
-      go (c ∷ l) = rw (ne_eqb (get_or s at 0) 45 n)
-
-  pub last_minus : length s ≤ at + 1 → false ≡ arrow_at s at
-  unfolding arrow_at arrow_in
-  last_minus n = rw (at_next 0 s at h, drop_of_length-le s n)
-
-  pub minus_then : get_or s at 0 ≡ 45 → at + 1 < length s → eqb (get_or s (at + 1) 0) 62 ≡ arrow_at s at
-  unfolding arrow_at arrow_in
-  minus_then e m = rw (at_next 0 s at h, at_next 0 s (at + 1) m, e)
+-- `starts_with` of what is left of s
+pub arrow_starts : (s : Bytes) (at : ℕ) → pointwise eqb (45 ∷ 62 ∷ []) (take 2 (take (length s - at) (drop at s))) ≡ arrow_at s at
+unfolding arrow_at
+arrow_starts s at = rw (part_all s at) (arrow_told (drop at s))
 
 -- ---- the next token
 

@@ -114,12 +114,9 @@ pub fn token_code(f: &[u8]) -> u64
     requires { 0 < length f.now }
     ensures { result ≡ code_of f.now }
 {
-    let b = f[0];
-    if f.len() == 1 {
-        return byte_code(b);
-    }
-    match b {
-        b'0'..=b'9' | b'#' => signs::OTHER,
+    match f {
+        [b] => byte_code(*b),
+        [b'0'..=b'9' | b'#', ..] => signs::OTHER,
         _ => {
             let k = word_code(f);
             if k == codes::NO_FORM { signs::OTHER } else { k }

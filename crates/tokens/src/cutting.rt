@@ -1,32 +1,13 @@
 // Where spaces end, and where a token ends.
-ghost use Rattle.std.specs.Prelude.{◌≡◌, ◌≢◌, ◌&&◌, ◌<◌, ◌≤◌, leb, length, get_or};
+ghost use Rattle.std.specs.Prelude.{◌≡◌, ◌≢◌, ◌<◌, ◌≤◌, length, get_or};
 ghost use Rattle.sheet.specs.Grammar.Tokens.{in_word};
 ghost use Rattle.tokens.specs.Meanings.{Skipped, RunEnds, arrow_at, TokenEnds};
-
-// Whether the byte is one of those from `low` to `high`.
-fn between(b: u8, low: u8, high: u8) -> bool
-    ensures { result ≡ (leb low b && leb b high) }
-{
-    if b < low {
-        return false;
-    }
-    b <= high
-}
 
 // Whether the byte is a letter, a digit or `#`.
 fn in_word(b: u8) -> bool
     ensures { result ≡ in_word b }
 {
-    if between(b, b'0', b'9') {
-        return true;
-    }
-    if between(b, b'a', b'z') {
-        return true;
-    }
-    if between(b, b'A', b'Z') {
-        return true;
-    }
-    b == b'#'
+    b.is_ascii_alphanumeric() || b == b'#'
 }
 
 // Where the spaces from `at` on end.
@@ -34,14 +15,12 @@ pub fn skip(s: &[u8], at: usize) -> usize
     requires { at ≤ length s.now }
     ensures { Skipped s.now at result }
 {
-    let mut i = at;
-    while i < s.len() {
+    for i in at..s.len() {
         if s[i] != b' ' {
             return i;
         }
-        i += 1;
     }
-    i
+    s.len()
 }
 
 // Where a run of letters, digits and `#` ends.
@@ -49,14 +28,12 @@ fn run_end(s: &[u8], at: usize) -> usize
     requires { at ≤ length s.now }
     ensures { RunEnds s.now at result }
 {
-    let mut i = at;
-    while i < s.len() {
+    for i in at..s.len() {
         if !in_word(s[i]) {
             return i;
         }
-        i += 1;
     }
-    i
+    s.len()
 }
 
 // Whether `->` begins at `at`.
@@ -64,13 +41,7 @@ fn is_arrow(s: &[u8], at: usize) -> bool
     requires { at < length s.now }
     ensures { result ≡ arrow_at s.now at }
 {
-    if s[at] == b'-' {
-        let e = at + 1;
-        if e < s.len() {
-            return s[e] == b'>';
-        }
-    }
-    false
+    s[at..].starts_with(b"->")
 }
 
 // Where the token ends that begins at `at`.

@@ -12,7 +12,7 @@ ghost use Rattle.tokens.specs.Meanings.{part, Ahead, NextIs, open_after, open_by
 use codes::token_code;
 use cutting::{skip, token_end};
 use memory::codes::CONDITIONAL;
-use text::numbers::{Num, number};
+use text::numbers::number;
 
 pub mod cutting; // where a token ends
 pub mod codes; // what it is
@@ -48,20 +48,14 @@ pub fn next_token(s: &[u8], at: usize) -> Token
 }
 
 // The number of a token that is this letter and a number, a million at most.
-pub fn label(s: &[u8], t: Token, letter: u8) -> Num
+pub fn label(s: &[u8], t: Token, letter: u8) -> Option<u64>
     requires { Ahead s.now t }
     ensures { result ≡ cut_num (labelled letter (part s.now t.start t.end)) }
 {
-    let a = t.start;
-    let e = t.end;
-    if a == e {
-        return Num::Bad;
+    match &s[t.start..t.end] {
+        [b, digits @ ..] if *b == letter => number(digits),
+        _ => None,
     }
-    if s[a] != letter {
-        return Num::Bad;
-    }
-    let from = a + 1;
-    number(&s[from..e])
 }
 
 // How many brackets and `if`s are open after a token of this code, where `depth` were before it.
@@ -71,11 +65,7 @@ fn open_after(code: u64, depth: usize) -> usize
 {
     match code {
         CONDITIONAL | signs::OPEN_BRACKET | signs::OPEN_BRACE => depth + 1,
-        signs::CLOSE_BRACKET | signs::CLOSE_BRACE | signs::ENDIF_WORD => if depth == 0 {
-            0
-        } else {
-            depth - 1
-        },
+        signs::CLOSE_BRACKET | signs::CLOSE_BRACE | signs::ENDIF_WORD => depth.saturating_sub(1),
         _ => depth,
     }
 }
@@ -87,8 +77,8 @@ fn open_by(follows: bool, b: u8, depth: usize) -> usize
 {
     match b {
         b'(' | b'{' => depth + 1,
-        b')' | b'}' => if depth == 0 { 0 } else { depth - 1 },
-        b'f' => if follows { depth + 1 } else { depth },
+        b')' | b'}' => depth.saturating_sub(1),
+        b'f' if follows => depth + 1,
         _ => depth,
     }
 }
@@ -97,17 +87,14 @@ fn open_by(follows: bool, b: u8, depth: usize) -> usize
 fn few_by_bytes(s: &[u8]) -> bool
     ensures { result ≡ bytes_within s.now }
 {
-    let mut depth: usize = 0;
+    let mut depth = 0;
     let mut follows = false;
-    let mut i: usize = 0;
-    while i < s.len() {
-        let b = s[i];
+    for &b in s {
         depth = open_by(follows, b, depth);
         if memory::MOST_OPEN < depth {
             return false;
         }
         follows = b == b'i';
-        i += 1;
     }
     true
 }
@@ -119,15 +106,15 @@ pub fn few_open(s: &[u8]) -> bool
     if few_by_bytes(s) {
         return true;
     }
-    let mut depth: usize = 0;
+    let mut depth = 0;
     let mut t = next_token(s, 0);
+    // from token to token, which differ in length
     while t.code != signs::END {
         depth = open_after(t.code, depth);
         if memory::MOST_OPEN < depth {
             return false;
         }
-        let e = t.end;
-        t = next_token(s, e);
+        t = next_token(s, t.end);
     }
     true
 }

@@ -1,15 +1,17 @@
 -- The end of a definition or rule: the code's tests and the definition's. Assumes nothing.
 use mathlib.Core.Path.{◌≡◌, refl, sym, ap, ◌∙◌}
-use mathlib.Core.Bool.{Bool, true, false, ◌&&◌}
+use mathlib.Core.Bool.{Bool, true, false, ◌&&◌, and-true}
 use mathlib.Core.Option.{Option, none, some}
 use mathlib.Core.List.{List, [], ◌∷◌}
 use Prim.Native.Nat.{ℕ, zero, suc, ◌+◌, ◌-◌, ◌*◌, ◌/◌, ◌%◌, ◌<◌, ◌≤◌}
 use native.Mathlib.Omega.{arith}
+use native.Mathlib.Numerals.{add-one}
+use Rattle.std.specs.List.{list_all, range_with_len}
 use borrow.Author.Tests.{eq-eqb, ne_eqb, le-leb, lt-leb}
 use lib.Dec.{eqb, leb}
 use lib.ListN.{length, get_or}
 use Rattle.laws.specs.Choice.{on_some}
-use Rattle.std.specs.Prelude.{if◌then◌else◌}
+use Rattle.std.specs.Prelude.{if◌then◌else◌, Ok, Err}
 use Rattle.laws.specs.Lists.{member}
 use Rattle.memory.specs.Map as memory
 use Rattle.ocl.specs.Types.{Ty}
@@ -18,28 +20,37 @@ use Rattle.sheet.specs.Sheet.{Current, Sheet, tree_of, last_tree, all_used, most
 use Rattle.nodes.specs.Nodes.{tree_at}
 use Rattle.tables.specs.Layout.{open_code, used_bit, HoldsCurrent, HoldsOpen, opened, Holds, Fine}
 use Rattle.tables.specs.declared.Counts.{Counts}
-use Rattle.tables.specs.declared.Step.TheVariants as code
 use Rattle.tables.proofs.Tables.{kept_refl}
 use Rattle.trees.specs.Operands.{depth_at}
 use Rattle.trees.specs.Rules.{used_in, PutDown, EndMoved, ended, refused, RuleEnded}
 use Rattle.trees.proofs.NodeLaws.{OpenRule, open_rule}
+use Rattle.memory.specs.declared.refusals.Refusal.TheVariants.{BrokenTree}
 
--- ---- the turns of `all_used`
+-- ---- what the chain of `all_used` answers: it asks from the front, and `used_in` from the back
 
-module _ (w : List ℕ) (first n : ℕ) {x : Bool} (inv : used_in w first n ≡ x) (some_left : 0 < n) where
-  one_less : used_in w first n ≡ (eqb (get_or w (depth_at first (n - 1)) 0 % 2) 1 && used_in w first (n - 1))
+and_around : (a b u : Bool) → ((a && b) && u) ≡ (b && (a && u))
+and_around true true u = refl
+and_around true false u = refl
+and_around false true u = refl
+and_around false false u = refl
+
+module _ (w : List ℕ) (first : ℕ) where
+  abbrev pub is_used : ℕ → Bool
+  is_used n = eqb (get_or w (depth_at first n) 0 % 2) 1
+
+  used_from : (n i : ℕ) → (list_all is_used (range_with_len i n) && used_in w first i) ≡ used_in w first (i + n)
   unfolding used_in
-  one_less = let e : n ≡ suc (n - 1) = omega arith in ap (used_in w first) e
+  used_from zero i = ap (used_in w first) (omega arith)
+  used_from (suc n) i =
+      let one : (is_used i && used_in w first i) ≡ used_in w first (i + 1) = ap (used_in w first) (sym (add-one i)) in
+      and_around (is_used i) (list_all is_used (range_with_len (i + 1) n)) (used_in w first i)
+      ∙ ap (λ (b : Bool). list_all is_used (range_with_len (i + 1) n) && b) one
+      ∙ used_from n (i + 1)
+      ∙ ap (used_in w first) (omega arith)
 
-  pub used_not : (get_or w (depth_at first (n - 1)) 0 % 2 ≡ 1 → ⊥) → false ≡ x
-  used_not h = sym (one_less ∙ rw (ne_eqb _ _ h)) ∙ inv
-
-  pub used_next : get_or w (depth_at first (n - 1)) 0 % 2 ≡ 1 → used_in w first (n - 1) ≡ x
-  used_next h = sym (one_less ∙ rw h) ∙ inv
-
-pub used_all : (w : List ℕ) (first n : ℕ) {x : Bool} → used_in w first n ≡ x → n ≤ 0 → true ≡ x
-unfolding used_in
-used_all w first n inv h = let e : n ≡ 0 = omega arith in rw e at inv
+  pub used_all : (n : ℕ) {r : Bool} → r ≡ list_all is_used (range_with_len 0 n) → r ≡ used_in w first n
+  unfolding used_in
+  used_all n e = e ∙ sym (and-true _) ∙ used_from n 0 ∙ ap (used_in w first) (omega arith)
 
 -- ---- the definition's tests, by the tables
 
@@ -82,14 +93,14 @@ some_open (some t) b e = omega arith
 -- ---- the answers
 
 module _ {st : Counts} {w1 : List ℕ} (w0 : List ℕ) where
-  pub end_none : st.«open» ≡ 0 → Fine st → RuleEnded st (code.Next st) w0 w1 w0
+  pub end_none : st.«open» ≡ 0 → Fine st → RuleEnded st (Ok st) w0 w1 w0
   unfolding end_rule end_for
   end_none e fine = record {
     is = λ s h. go s h s.current refl h.current;
     kept = kept_refl w0;
   }
     where
-      go : (s : Sheet) → Holds st w0 w1 s → (o : Option Current) → s.current ≡ o → HoldsOpen st w1 (length s.lines) o → EndMoved w0 w1 (code.Next st) (end_for s o)
+      go : (s : Sheet) → Holds st w0 w1 s → (o : Option Current) → s.current ≡ o → HoldsOpen st w1 (length s.lines) o → EndMoved w0 w1 (Ok st) (end_for s o)
       go s h none q k = ended fine h
       go s h (some c) q (opened k) = absurd (some_open c.result c.text (sym k.is_open ∙ e))
 
@@ -98,7 +109,7 @@ module _ {st : Counts} {w1 : List ℕ} (w0 : List ℕ) where
     unfolding end_rule end_for
     rule_end s o = ap (end_for s) o.is
 
-    pub end_empty : st.first ≡ st.nodes → RuleEnded st (code.Refused 8) w0 w1 w0
+    pub end_empty : st.first ≡ st.nodes → RuleEnded st (Err BrokenTree) w0 w1 w0
     unfolding end_of on_some
     end_empty e = record {
       is = λ s h.
@@ -132,7 +143,7 @@ module _ {st : Counts} {w1 : List ℕ} (w0 : List ℕ) where
         end_by = rw (last_tree_lem o.rule.trees (st.nodes - 1 - st.first) many, ← its_used, its_depth)
 
       module _ {b : Bool} (told : b ≡ used_in w1 st.first (st.nodes - 1 - st.first)) where
-        pub end_unused : b ≡ false → RuleEnded st (code.Refused 8) w0 w1 w0
+        pub end_unused : b ≡ false → RuleEnded st (Err BrokenTree) w0 w1 w0
         end_unused q = record {
           is = λ s h.
               let o = open_rule h is_open in
@@ -140,7 +151,7 @@ module _ {st : Counts} {w1 : List ℕ} (w0 : List ℕ) where
           kept = kept_refl w0;
         }
 
-        pub end_deep : b ≡ true → most_levels < get_or w1 (memory.depths + (st.nodes - 1)) 0 / 2 → RuleEnded st (code.Refused 8) w0 w1 w0
+        pub end_deep : b ≡ true → most_levels < get_or w1 (memory.depths + (st.nodes - 1)) 0 / 2 → RuleEnded st (Err BrokenTree) w0 w1 w0
         end_deep q l = record {
           is = λ s h.
               let o = open_rule h is_open in
@@ -152,7 +163,7 @@ module _ {st : Counts} {w1 : List ℕ} (w0 : List ℕ) where
 
 pub end_down : {st : Counts} {w1 : List ℕ} {b : Bool} {r : Counts} (w0 v0 : List ℕ) → (st.«open» ≡ 0 → ⊥) → Fine st → (st.first ≡ st.nodes → ⊥)
     → b ≡ used_in w1 st.first (st.nodes - 1 - st.first) → b ≡ true → get_or w1 (memory.depths + (st.nodes - 1)) 0 / 2 ≤ most_levels
-    → PutDown st r (st.nodes - 1) w0 v0 → RuleEnded st (code.Next r) w0 w1 v0
+    → PutDown st r (st.nodes - 1) w0 v0 → RuleEnded st (Ok r) w0 w1 v0
 end_down {st} {w1} {b} {r} w0 v0 is_open fine node told q l down = record {
   is = λ s h.
       let o = open_rule h is_open in

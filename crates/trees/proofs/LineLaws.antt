@@ -17,14 +17,11 @@ use Rattle.text.specs.Forms.{shape_by}
 use Rattle.text.specs.Numbers.{cut_num}
 use Rattle.text.specs.Parts.{Cut}
 use Rattle.text.specs.Words.{form_code}
-use Rattle.text.specs.declared.numbers.Num.TheVariants as num
 use Rattle.text.specs.declared.parts.Fields.{Fields}
 use Rattle.text.proofs.NumberLaws.{num_bad, num_is}
 use Rattle.text.proofs.ShapeLaws.{shape_code}
 use Rattle.tables.specs.Layout.{moved_refused, Took}
 use Rattle.tables.specs.declared.Counts.{Counts}
-use Rattle.tables.specs.declared.Step.{Step}
-use Rattle.tables.specs.declared.Step.TheVariants as code
 use Rattle.tables.proofs.Tables.{kept_refl}
 use Rattle.tables.proofs.LineFields.{word_is}
 use Rattle.tables.proofs.Steps.{step_bad, step_line_lem}
@@ -33,6 +30,9 @@ use Rattle.shapes.specs.Fields.{cut}
 use Rattle.shapes.specs.Forms.{StandsFor, Spelled, misspelled, spelled, FormRead}
 use Rattle.trees.specs.Rules.{Placed}
 use Rattle.shapes.proofs.FieldLaws.{field_count}
+use Rattle.std.specs.Prelude.{Some, None, Result, Err}
+use Rattle.memory.specs.declared.refusals.Refusal.{Refusal}
+use Rattle.memory.specs.declared.refusals.Refusal.TheVariants.{BadLine}
 
 -- ---- the fields
 
@@ -65,30 +65,30 @@ module _ (fs : List Bytes) (starts : is (get_or fs 0 []) (bytes "N") ≡ true) w
 
 -- ---- 3, and a line that spells a node
 
-took_none : {st : Counts} {k : ℕ} {line w0 w : List ℕ} → line_of (fields_of line) ≡ none → Took st k line (code.Refused 3) w0 w w0 w
+took_none : {st : Counts} {k : ℕ} {line w0 w : List ℕ} → line_of (fields_of line) ≡ none → Took st k line (Err BadLine) w0 w w0 w
 took_none {k = k} {line = line} {w0 = w0} {w = w} e = record { is = λ s h. rw (step_bad s k (fields_of line) e) moved_refused; kept0 = kept_refl w0; kept1 = kept_refl w }
 
 node_plain : (i : ℕ) (x : Shape) (test : Bytes → Bool) → on_text (node_line i x) test ≡ true
 unfolding on_text
 node_plain i x test = refl
 
-took_node : {st : Counts} {k n : ℕ} {line w0 w v : List ℕ} {p : Parsed} {r : Step} (i : ℕ) (x : Shape) → line_of (fields_of line) ≡ some (node_line i x) → n ≡ cut i → StandsFor k x p → Placed st n p r w0 w v → Took st k line r w0 w w0 v
+took_node : {st : Counts} {k n : ℕ} {line w0 w v : List ℕ} {p : Parsed} {r : Result Counts Refusal} (i : ℕ) (x : Shape) → line_of (fields_of line) ≡ some (node_line i x) → n ≡ cut i → StandsFor k x p → Placed st n p r w0 w v → Took st k line r w0 w w0 v
 took_node {k = k} {line = line} {w0 = w0} i x e q z d = record { is = λ s h. rw (step_line_lem s k (fields_of line) (node_plain i x) e) (d.is k s i x q z h); kept0 = kept_refl w0; kept1 = d.kept }
 
 module _ {line : List ℕ} {f : Fields} (cut_up : Cut line f) (starts : is (get_or (fields_of line) 0 []) (bytes "N") ≡ true) where
-  pub line_short : {st : Counts} {k : ℕ} {w0 w : List ℕ} → f.count < 3 → Took st k line (code.Refused 3) w0 w w0 w
+  pub line_short : {st : Counts} {k : ℕ} {w0 w : List ℕ} → f.count < 3 → Took st k line (Err BadLine) w0 w w0 w
   line_short h = took_none (few_fields (fields_of line) starts (omega (arith, cut_up.counted)))
 
   module _ (long : 3 ≤ f.count) where
     spelled_line : line_of (fields_of line) ≡ on_some (a_number (get_or (fields_of line) 1 [])) (λ n. map_some (node_line n) (shape_by (form_code (get_or (fields_of line) 2 [])) (drop 3 (fields_of line))))
     spelled_line = line_of_lem (fields_of line) starts (field_count cut_up long)
 
-    pub line_number : {st : Counts} {k : ℕ} {w0 w : List ℕ} → num.Bad ≡ cut_num (a_number (get_or (fields_of line) 1 [])) → Took st k line (code.Refused 3) w0 w w0 w
+    pub line_number : {st : Counts} {k : ℕ} {w0 w : List ℕ} → None ≡ cut_num (a_number (get_or (fields_of line) 1 [])) → Took st k line (Err BadLine) w0 w w0 w
     unfolding on_some
     line_number h = took_none (spelled_line ∙ rw (num_bad (a_number (get_or (fields_of line) 1 [])) h))
 
     module _ {k c : ℕ} {p : Parsed} (coded : c ≡ form_code (get_or (fields_of line) 2 [])) (form : FormRead k (shape_by c (drop 3 (fields_of line))) p) where
-      pub line_form : {st : Counts} {w0 w : List ℕ} → not p.spelled ≡ true → Took st k line (code.Refused 3) w0 w w0 w
+      pub line_form : {st : Counts} {w0 w : List ℕ} → not p.spelled ≡ true → Took st k line (Err BadLine) w0 w w0 w
       unfolding on_some map_some
       line_form h = took_none (spelled_line ∙ rw (← coded) (go (a_number (get_or (fields_of line) 1 [])) form.is))
         where
@@ -96,7 +96,7 @@ module _ {line : List ℕ} {f : Fields} (cut_up : Cut line f) (starts : is (get_
           go o (misspelled e) = nowhere o _ (λ n. refl)
           go o (spelled e z) = absurd (true≢false (sym e ∙ not-true p.spelled h))
 
-      pub line_placed : {st : Counts} {n : ℕ} {r : Step} {w0 w v : List ℕ} → num.Is n ≡ cut_num (a_number (get_or (fields_of line) 1 [])) → not p.spelled ≡ false → Placed st n p r w0 w v → Took st k line r w0 w w0 v
+      pub line_placed : {st : Counts} {n : ℕ} {r : Result Counts Refusal} {w0 w v : List ℕ} → Some n ≡ cut_num (a_number (get_or (fields_of line) 1 [])) → not p.spelled ≡ false → Placed st n p r w0 w v → Took st k line r w0 w w0 v
       unfolding on_some map_some
       line_placed {st} {n} {r} {w0} {w} {v} e h d = go (a_number (get_or (fields_of line) 1 [])) refl (num_is (a_number (get_or (fields_of line) 1 [])) e) (shape_by c (drop 3 (fields_of line))) refl form.is
         where

@@ -6,9 +6,11 @@ use Prim.Native.Nat.{ℕ, zero, suc, ◌+◌, ◌-◌, ◌/◌, ◌%◌, ◌<◌
 use native.Mathlib.Omega.{arith}
 use native.Mathlib.Decide.{dec_lt}
 use borrow.Author.Tests.{eq-eqb, ne_eqb, lt-ltb, le-ltb, le-leb, lt-leb, ltb-true}
+use Rattle.std.specs.List.{list_all}
+use Rattle.std.proofs.lemmas.List.Recursion.{same_from_clauses}
 use lib.Dec.{ltb}
-use lib.ListN.{length, get_or, drop, set, length-drop, drop_of_length-le}
-use lib.Seq.{length-take-le, get_or-take, get_or-drop, get_or-set_same, get_or-set_other}
+use lib.ListN.{length, get_or, drop, set, drop_of_length-le}
+use lib.Seq.{get_or-take, get_or-drop, get_or-set_same, get_or-set_other}
 use Rattle.laws.specs.Lists.{all_of}
 use Rattle.laws.proofs.Parts.{at_next}
 use Rattle.sheet.specs.Limits.{is_node}
@@ -16,56 +18,32 @@ use Rattle.tables.proofs.Tables.{kept_refl, kept_set, kept_then}
 use Rattle.shapes.specs.Forms.{operands_at}
 use Rattle.trees.specs.Operands.{Marking, malformed, deepest, depth_at, marking, shifted, WroteWords}
 
--- ---- the operands that are left after i
+-- ---- within their limits
 
-module _ (words : List ℕ) (count i : ℕ) (size : length words ≡ 8) (few : count ≤ 4) where
-  operands_length : length (operands_at words count) ≡ count
-  operands_length = length-take-le count (drop 1 words) (omega (arith, length-drop 1 words))
+pub all_within : (es : List ℕ) {r : Bool} → r ≡ list_all (λ a. ltb a 768) es → r ≡ all_of is_node es
+unfolding all_of is_node
+all_within es e = e ∙ same_from_clauses (list_all (λ a. ltb a 768)) (all_of is_node) (λ a b. ltb a 768 && b) refl (λ _ _. refl) (λ _ _. refl) es
 
-  pub operand_at : i < count → get_or (operands_at words count) i 0 ≡ get_or words (1 + i) 0
-  operand_at h = get_or-take count (drop 1 words) i 0 h ∙ get_or-drop 1 words i 0
+-- ---- marked: the first i operands are
 
-  pub operands_next : i < count → drop i (operands_at words count) ≡ get_or words (1 + i) 0 ∷ drop (i + 1) (operands_at words count)
-  operands_next h = at_next 0 (operands_at words count) i (omega (arith, operands_length)) ∙ rw (operand_at h)
+module _ (es : List ℕ) (i first n d : ℕ) (w : List ℕ) {x : Marking} (inv : marking first n d (drop i es) w ≡ x) where
+  pub mark_late : i < length es → n ≤ get_or es i 0 → malformed w ≡ x
+  unfolding marking
+  mark_late h l = rw (at_next 0 es i h, le-ltb (get_or es i 0) n l) at inv
 
-  pub operands_end : count ≤ i → drop i (operands_at words count) ≡ []
-  operands_end h = drop_of_length-le (operands_at words count) {i = i} (omega (arith, operands_length))
+  pub mark_used : i < length es → get_or es i 0 < n → get_or w (depth_at first (get_or es i 0)) 0 % 2 ≡ 1 → malformed w ≡ x
+  unfolding marking
+  mark_used h l e = rw (at_next 0 es i h, lt-ltb (get_or es i 0) n l, e) at inv
 
-  -- ---- within their limits
+  pub mark_next : {e : ℕ} → i < length es → get_or es i 0 < n → (get_or w (depth_at first (get_or es i 0)) 0 % 2 ≡ 1 → ⊥)
+      → e ≡ max d (min (get_or w (depth_at first (get_or es i 0)) 0 / 2) 1000)
+      → marking first n e (drop (i + 1) es) (set w (depth_at first (get_or es i 0)) (get_or w (depth_at first (get_or es i 0)) 0 + 1)) ≡ x
+  unfolding marking
+  mark_next h l u e = rw e (rw (at_next 0 es i h, lt-ltb (get_or es i 0) n l, ne_eqb _ _ u) at inv)
 
-  module _ {x : Bool} (inv : all_of is_node (drop i (operands_at words count)) ≡ x) where
-    pub within_not : i < count → 768 ≤ get_or words (1 + i) 0 → false ≡ x
-    unfolding all_of is_node
-    within_not h l = rw (operands_next h, le-ltb (get_or words (1 + i) 0) 768 l) at inv
-
-    pub within_next : i < count → get_or words (1 + i) 0 < 768 → all_of is_node (drop (i + 1) (operands_at words count)) ≡ x
-    unfolding all_of is_node
-    within_next h l = rw (operands_next h, lt-ltb (get_or words (1 + i) 0) 768 l) at inv
-
-    pub within_end : count ≤ i → true ≡ x
-    unfolding all_of
-    within_end h = rw (operands_end h) at inv
-
-  -- ---- marked
-
-  module _ (first n d : ℕ) (w : List ℕ) {x : Marking} (inv : marking first n d (drop i (operands_at words count)) w ≡ x) where
-    pub mark_late : i < count → n ≤ get_or words (1 + i) 0 → malformed w ≡ x
-    unfolding marking
-    mark_late h l = rw (operands_next h, le-ltb (get_or words (1 + i) 0) n l) at inv
-
-    pub mark_used : i < count → get_or words (1 + i) 0 < n → get_or w (depth_at first (get_or words (1 + i) 0)) 0 % 2 ≡ 1 → malformed w ≡ x
-    unfolding marking
-    mark_used h l e = rw (operands_next h, lt-ltb (get_or words (1 + i) 0) n l, e) at inv
-
-    pub mark_next : {e : ℕ} → i < count → get_or words (1 + i) 0 < n → (get_or w (depth_at first (get_or words (1 + i) 0)) 0 % 2 ≡ 1 → ⊥)
-        → e ≡ max d (min (get_or w (depth_at first (get_or words (1 + i) 0)) 0 / 2) 1000)
-        → marking first n e (drop (i + 1) (operands_at words count)) (set w (depth_at first (get_or words (1 + i) 0)) (get_or w (depth_at first (get_or words (1 + i) 0)) 0 + 1)) ≡ x
-    unfolding marking
-    mark_next h l u e = rw e (rw (operands_next h, lt-ltb (get_or words (1 + i) 0) n l, ne_eqb _ _ u) at inv)
-
-    pub mark_end : count ≤ i → deepest d w ≡ x
-    unfolding marking
-    mark_end h = rw (operands_end h) at inv
+  pub mark_end : length es ≤ i → deepest d w ≡ x
+  unfolding marking
+  mark_end h = rw (drop_of_length-le es {i = i} h) at inv
 
 -- ---- a word as the table has it
 

@@ -5,7 +5,7 @@ use mathlib.Core.Option.{Option, none, some, none-ne-some}
 use mathlib.Core.List.{List, [], ◌∷◌, map}
 use Prim.Native.Nat.{ℕ, ◌-◌, ◌<◌, ◌≤◌}
 use native.Mathlib.Omega.{arith}
-use borrow.Author.Tests.{eq-eqb, ne_eqb, eqb-true, eqb-false, lt-ltb, le-ltb, ltb-true, le-leb, lt-leb, not-true, not-false}
+use borrow.Author.Tests.{eq-eqb, ne_eqb, eqb-true, eqb-false, ltb-true, le-leb, lt-leb, not-true}
 use lib.Dec.{eqb, leb, ltb}
 use lib.ListN.{length}
 use Rattle.laws.specs.Lists.{all_of}
@@ -19,7 +19,6 @@ use Rattle.sheet.specs.Refusals.{two_variables, form_known, block_of, next_node,
 use Rattle.nodes.specs.Nodes.{shape_words}
 use Rattle.tables.specs.Layout.{open_code, Holds, HoldsOpen, closed, opened, Fine, moved_refused}
 use Rattle.tables.specs.declared.Counts.{Counts}
-use Rattle.tables.specs.declared.Step.TheVariants as code
 use Rattle.tables.proofs.Tables.{kept_refl}
 use Rattle.tables.proofs.Steps.{over_limits, out_of_order, unknown_part, calls_up, calls_none}
 use Rattle.shapes.specs.declared.Parsed.{Parsed}
@@ -30,27 +29,13 @@ use Rattle.trees.specs.Calls.{calls_in, called_at, resolved_in}
 use Rattle.trees.specs.Rules.{node_limits, node_order, Placed}
 use Rattle.shapes.proofs.FormLaws.{nodes_small}
 use Rattle.trees.proofs.CallLaws.{calls_shape, resolved_shape}
+use Rattle.std.specs.Prelude.{Ok, Err}
+use Rattle.memory.specs.declared.refusals.Refusal.{Refusal}
+use Rattle.memory.specs.declared.refusals.Refusal.TheVariants.{CallUpward, OutOfRow, OverMeasure, UnknownDefinition, UnknownPart}
 
 -- ---- what the code's tests answer
 
 module _ (st : Counts) (n : ℕ) (p : Parsed) where
-  pub limits_number : 768 ≤ n → false ≡ node_limits st n p
-  unfolding node_limits is_node
-  limits_number h = rw (le-ltb n 768 h)
-
-  pub limits_form : n < 768 → not p.within ≡ true → false ≡ node_limits st n p
-  unfolding node_limits is_node
-  limits_form h k = rw (lt-ltb n 768 h, not-true p.within k)
-
-  module _ {b : Bool} (told : b ≡ all_of is_node (operands_at p.words p.count)) where
-    pub limits_operands : n < 768 → not p.within ≡ false → b ≡ false → false ≡ node_limits st n p
-    unfolding node_limits is_node
-    limits_operands h k q = rw (lt-ltb n 768 h, not-false p.within k, ← told, q)
-
-    pub limits_nodes : n < 768 → not p.within ≡ false → b ≡ true → ltb st.nodes 768 ≡ node_limits st n p
-    unfolding node_limits is_node
-    limits_nodes h k q = rw (lt-ltb n 768 h, not-false p.within k, ← told, q)
-
   pub order_block : 5 < st.block → false ≡ node_order st n p
   unfolding node_order
   order_block h = rw (lt-leb st.block 5 h)
@@ -184,11 +169,11 @@ defines (some c) (opened q) = rw q.is_open (go c.result c.text)
 -- ---- 4, 5, 6, 23 and 24
 
 -- a refusal has no counts
-pub stopped : {n : ℕ} (u : Counts) → code.Refused n ≡ code.Next u → Fine u
+pub stopped : {e : Refusal} (u : Counts) → Err e ≡ Ok u → Fine u
 stopped u e = absurd (let z : ◌≡◌ {A = ℕ} 0 1 = cc in omega arith)
 
 module _ {st : Counts} {n : ℕ} {p : Parsed} (w0 w1 : List ℕ) (fine : Fine st) where
-  pub place_4 : {b : Bool} → b ≡ node_limits st n p → b ≡ false → Placed st n p (code.Refused 4) w0 w1 w1
+  pub place_4 : {b : Bool} → b ≡ node_limits st n p → b ≡ false → Placed st n p (Err OverMeasure) w0 w1 w1
   place_4 {b} e q = record {
     is = λ line s i x u z h. rw (over_limits s line (node_line i x) (sym (limits_same i u z h) ∙ sym e ∙ q)) moved_refused;
     fine = stopped;
@@ -196,7 +181,7 @@ module _ {st : Counts} {n : ℕ} {p : Parsed} (w0 w1 : List ℕ) (fine : Fine st
   }
 
   module _ (ok : node_limits st n p ≡ true) where
-    pub place_5 : {b : Bool} → b ≡ node_order st n p → b ≡ false → Placed st n p (code.Refused 5) w0 w1 w1
+    pub place_5 : {b : Bool} → b ≡ node_order st n p → b ≡ false → Placed st n p (Err OutOfRow) w0 w1 w1
     place_5 {b} e q = record {
       is = λ line s i x u z h. rw (out_of_order s line (node_line i x) (sym (limits_same i u z h) ∙ ok) (sym (order_same i u z h fine ok) ∙ sym e ∙ q)) moved_refused;
       fine = stopped;
@@ -204,7 +189,7 @@ module _ {st : Counts} {n : ℕ} {p : Parsed} (w0 w1 : List ℕ) (fine : Fine st
     }
 
     module _ (o : node_order st n p ≡ true) where
-      pub place_6 : st.classes < p.classes → Placed st n p (code.Refused 6) w0 w1 w1
+      pub place_6 : st.classes < p.classes → Placed st n p (Err UnknownPart) w0 w1 w1
       place_6 l = record {
         is = λ line s i x u z h.
             rw (unknown_part s line (node_line i x) (sym (limits_same i u z h) ∙ ok) (sym (order_same i u z h fine ok) ∙ o) (sym (known_same i u z h fine ok) ∙ lt-leb p.classes st.classes l)) moved_refused;
@@ -213,7 +198,7 @@ module _ {st : Counts} {n : ℕ} {p : Parsed} (w0 w1 : List ℕ) (fine : Fine st
       }
 
       module _ (classes : p.classes ≤ st.classes) {b : Bool} (told : b ≡ leb (calls_in p.words p.count) st.definitions) (upward : b ≡ false) where
-        pub place_23 : st.«open» ≡ 2 → Placed st n p (code.Refused 23) w0 w1 w1
+        pub place_23 : st.«open» ≡ 2 → Placed st n p (Err CallUpward) w0 w1 w1
         unfolding calls_smaller
         place_23 e = record {
           is = λ line s i x u z h.
@@ -223,7 +208,7 @@ module _ {st : Counts} {n : ℕ} {p : Parsed} (w0 w1 : List ℕ) (fine : Fine st
           kept = kept_refl w1;
         }
 
-        pub place_24 : (st.«open» ≡ 2 → ⊥) → Placed st n p (code.Refused 24) w0 w1 w1
+        pub place_24 : (st.«open» ≡ 2 → ⊥) → Placed st n p (Err UnknownDefinition) w0 w1 w1
         unfolding calls_smaller calls_known
         place_24 e = record {
           is = λ line s i x u z h.

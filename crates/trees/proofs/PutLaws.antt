@@ -17,7 +17,6 @@ use Rattle.sheet.specs.Refusals.{fresh, parts_known, call_below, in_definition, 
 use Rattle.nodes.specs.Nodes.{word, shape_words}
 use Rattle.tables.specs.Layout.{Holds, Fine, Kept, moved_next, moved_refused}
 use Rattle.tables.specs.declared.Counts.{Counts}
-use Rattle.tables.specs.declared.Step.TheVariants as code
 use Rattle.tables.proofs.Tables.{kept_set, kept_then}
 use Rattle.tables.proofs.Steps.{malformed_tree, steps_on}
 use Rattle.shapes.specs.declared.Parsed.{Parsed}
@@ -32,6 +31,8 @@ use Rattle.trees.proofs.ShapeLaws.{body_levels, shape_shifted}
 use Rattle.trees.proofs.CallLaws.{depth_shape}
 use Rattle.trees.proofs.PlaceLaws.{nodes_low, is_open, is_next, limits_same, form_within_lem, operands_are, order_same, known_same, calls_same, full_words, stopped}
 use Rattle.trees.proofs.NodeLaws.{OpenRule, open_rule, rule_depth, rule_depths, node_holds}
+use Rattle.std.specs.Prelude.{Ok, Err}
+use Rattle.memory.specs.declared.refusals.Refusal.TheVariants.{BrokenTree}
 
 pub place_room : (st : Counts) (n : ℕ) (p : Parsed) → Fine st → node_limits st n p ≡ true → node_order st n p ≡ true → st.first + n ≤ 768
 place_room st n p fine ok ordered = omega (arith, is_next st n p ordered, nodes_low st n p ok, fine.first)
@@ -88,7 +89,7 @@ module _ (st : Counts) (n : ℕ) (p : Parsed) (w0 w1 : List ℕ) (fine : Fine st
     unfolding tree_holds operands_fresh
     tree_test = ap (λ (c : Option Current). operands_fresh c x) o.is
 
-  pub place_8 : {v1 : List ℕ} → malformed v1 ≡ marking st.first n 0 (operands_at p.words p.count) w1 → Placed st n p (code.Refused 8) w0 w1 v1
+  pub place_8 : {v1 : List ℕ} → malformed v1 ≡ marking st.first n 0 (operands_at p.words p.count) w1 → Placed st n p (Err BrokenTree) w0 w1 v1
   unfolding suits words_of
   place_8 {v1} e = record {
     is = λ line s i x u z h.
@@ -186,7 +187,7 @@ module _ (st : Counts) (n : ℕ) (p : Parsed) (w0 w1 : List ℕ) (fine : Fine st
           node_holds i (max d b) h fine long0 o z within (omega (arith, z.counted)) (called i number z h o) (fresh_low (length o.rule.trees) o.rule.used (operands_of x) told.0) depth_told
           (λ j l. low_after j (omega (arith, h.counted.nodes))) (λ j l. half_after j (omega (arith, h.counted.nodes))) new_words (ap (λ (m : ℕ). get_or (set v (memory.depths + st.nodes) (2 * (max d b + 1))) (memory.depths + m) 0) (sym h.counted.nodes) ∙ depth_after) new_depths
 
-    pub place_on : {r : Counts} → p.count ≤ 4 → r ≡ node_counts st → Placed st n p (code.Next r) w0 w1 (set v (memory.depths + st.nodes) (2 * (max d b + 1)))
+    pub place_on : {r : Counts} → p.count ≤ 4 → r ≡ node_counts st → Placed st n p (Ok r) w0 w1 (set v (memory.depths + st.nodes) (2 * (max d b + 1)))
     unfolding suits node_counts
     place_on few q = rw q (record {
       is = λ line s i x number z h.

@@ -1,11 +1,9 @@
 -- A node's operands in the tables: marked as used, and written into the node's words.
-use Rattle.std.specs.Prelude.{◌≡◌, List, [], ◌∷◌, ℕ, ◌+◌, ◌/◌, ◌%◌, ◌≤◌, ◌<◌, min, max, get_or, set, eqb, leb, ltb}
+use Rattle.std.specs.Prelude.{◌≡◌, List, [], ◌∷◌, ℕ, ◌+◌, ◌/◌, ◌%◌, ◌≤◌, ◌<◌, min, max, get_or, set, eqb, leb, ltb, Option as Optional, Some, None}
 use Rattle.std.specs.Prelude.{if◌then◌else◌}
 use Rattle.memory.specs.Map as memory
 use Rattle.tables.specs.Layout.{Kept}
 use Rattle.trees.specs.Calls.{depth_cut}
-use Rattle.trees.specs.declared.operands.Marked.{Marked}
-use Rattle.trees.specs.declared.operands.Marked.TheVariants as code
 
 -- ---- operands of the rule's node n, marked one after the other, after operands of which the deepest has depth d
 
@@ -26,9 +24,9 @@ marking first n d (a ∷ es) w =
     else marking first n (max d (min (get_or w (depth_at first a) 0 / 2) depth_cut)) es (set w (depth_at first a) (get_or w (depth_at first a) 0 + 1)))
     else malformed w
 
-unfoldable pub marked : Marked → List ℕ → Marking
-marked code.Malformed w = malformed w
-marked (code.Deepest d) w = deepest d w
+unfoldable pub marked : Optional ℕ → List ℕ → Marking
+marked None w = malformed w
+marked (Some d) w = deepest d w
 
 -- ---- words written
 

@@ -1,5 +1,5 @@
 -- What the code promises of a node line, and of the end of a definition or rule.
-use Rattle.std.specs.Prelude.{◌≡◌, ◌≢◌, Bool, true, not, ◌&&◌, List, ℕ, zero, suc, ◌+◌, ◌-◌, ◌/◌, ◌%◌, ◌≤◌, ◌<◌, length, get_or, eqb, leb, ltb}
+use Rattle.std.specs.Prelude.{◌≡◌, ◌≢◌, Bool, true, not, ◌&&◌, List, ℕ, zero, suc, ◌+◌, ◌-◌, ◌/◌, ◌%◌, ◌≤◌, ◌<◌, length, get_or, eqb, leb, ltb, Result, Ok, Err}
 use Rattle.std.proofs.Math.Option.{Option, none, some}
 use Rattle.laws.specs.Lists.{all_of}
 use Rattle.memory.specs.Map as memory
@@ -13,13 +13,13 @@ use Rattle.sheet.specs.Reading.{step_line}
 use Rattle.nodes.specs.Nodes.{tree_at}
 use Rattle.tables.specs.Layout.{Holds, Fine, Kept, Moved}
 use Rattle.tables.specs.declared.Counts.{Counts}
-use Rattle.tables.specs.declared.Step.{Step}
-use Rattle.tables.specs.declared.Step.TheVariants as code
 use Rattle.shapes.specs.declared.Parsed.{Parsed}
 use Rattle.shapes.specs.Fields.{cut}
 use Rattle.shapes.specs.Forms.{operands_at, StandsFor}
 use Rattle.trees.specs.Operands.{depth_at}
 use Rattle.trees.specs.Calls.{calls_in}
+use Rattle.memory.specs.declared.refusals.Refusal.{Refusal}
+use Rattle.memory.specs.declared.refusals.Refusal.TheVariants.{BrokenTree}
 
 -- an open rule has a number below 64, and an open definition one below 32: an R line and a D line were held to that
 pub record RuleRoom (st : Counts) : Type 0 where
@@ -62,9 +62,9 @@ node_counts st = record {
 }
 
 -- a line that spells a node: the words were w0 and w1 and are w0 and v1
-pub record Placed (st : Counts) (n : ℕ) (p : Parsed) (r : Step) (w0 w1 v1 : List ℕ) : Type 0 where
+pub record Placed (st : Counts) (n : ℕ) (p : Parsed) (r : Result Counts Refusal) (w0 w1 v1 : List ℕ) : Type 0 where
   pub is : (line : ℕ) (s : Sheet) (i : ℕ) (x : Shape) → n ≡ cut i → StandsFor line x p → Holds st w0 w1 s → Moved w0 v1 r (step_line s line (node_line i x))
-  pub fine : (u : Counts) → r ≡ code.Next u → Fine u
+  pub fine : (u : Counts) → r ≡ Ok u → Fine u
   pub kept : Kept w1 v1
 
 -- ---- the end of a definition or rule
@@ -116,10 +116,10 @@ pub record PutDown (st r : Counts) (root : ℕ) (w0 v0 : List ℕ) : Type 0 wher
       → Fine r × Holds r v0 w1 (with_body s c.context c.result (tree_at w1 root))
   pub kept : Kept w0 v0
 
-pub data EndMoved (w0 w1 : List ℕ) : Step → Option Sheet → Type 0 where
-  ended : {st : Counts} {s : Sheet} → Fine st → Holds st w0 w1 s → EndMoved w0 w1 (code.Next st) (some s)
-  refused : EndMoved w0 w1 (code.Refused 8) none
+pub data EndMoved (w0 w1 : List ℕ) : Result Counts Refusal → Option Sheet → Type 0 where
+  ended : {st : Counts} {s : Sheet} → Fine st → Holds st w0 w1 s → EndMoved w0 w1 (Ok st) (some s)
+  refused : EndMoved w0 w1 (Err BrokenTree) none
 
-pub record RuleEnded (st : Counts) (r : Step) (w0 w1 v0 : List ℕ) : Type 0 where
+pub record RuleEnded (st : Counts) (r : Result Counts Refusal) (w0 w1 v0 : List ℕ) : Type 0 where
   pub is : (s : Sheet) → Holds st w0 w1 s → EndMoved v0 w1 r (end_rule s)
   pub kept : Kept w0 v0

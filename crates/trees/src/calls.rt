@@ -11,10 +11,7 @@ pub fn is_call(words: [u64; 8], count: usize) -> bool
     requires { length words ≡ 8 }
     ensures { result ≡ is_call words count }
 {
-    if count != 1 {
-        return false;
-    }
-    words[0] == CALL
+    count == 1 && words[0] == CALL
 }
 
 // Whether the definition that the node calls, if it calls one, is among the first `definitions`.
@@ -22,10 +19,7 @@ pub fn calls_below(words: [u64; 8], count: usize, definitions: u64) -> bool
     requires { length words ≡ 8 }
     ensures { result ≡ leb (calls_in words count) definitions }
 {
-    if !is_call(words, count) {
-        return true;
-    }
-    words[2] < definitions
+    !is_call(words, count) || words[2] < definitions
 }
 
 // The words of a node with its definition's root, class and type in place of the number.
@@ -64,6 +58,5 @@ pub fn body_depth(w1: &[u64], words: [u64; 8], count: usize) -> u64
     if memory::MOST_NODES <= root {
         return 0;
     }
-    let h = w1[memory::DEPTHS + root as usize] / 2;
-    if h < DEPTH_CUT { h } else { DEPTH_CUT }
+    (w1[memory::DEPTHS + root as usize] / 2).min(DEPTH_CUT)
 }

@@ -6,21 +6,15 @@ ghost use Rattle.tables.specs.Layout.{Fine};
 ghost use Rattle.trees.specs.Rules.{RuleRoom, used_in, ended_counts, defined_counts, PutDown, RuleEnded};
 
 use memory::lines;
-use tables::{Counts, Step};
+use memory::refusals::Refusal;
+use tables::Counts;
 
 // Whether each of the first `count` nodes from `first` on is an operand.
 fn all_used(w1: &[u64], first: usize, count: usize) -> bool
     requires { (least_words ≤ length w1.now) × (first + count ≤ most_nodes) }
     ensures { result ≡ used_in w1.now first count }
 {
-    let mut n = count;
-    while 0 < n {
-        n -= 1;
-        if w1[memory::DEPTHS + (first + n)] % 2 != 1 {
-            return false;
-        }
-    }
-    true
+    (0..count).all(|n| w1[memory::DEPTHS + (first + n)] % 2 == 1)
 }
 
 // The counts with the open rule stored.
@@ -28,10 +22,11 @@ fn with_rule(st: Counts) -> Counts
     requires { Fine st }
     ensures { result ≡ ended_counts st }
 {
-    let mut next = st;
-    next.rules = st.rules + 1;
-    next.open = lines::NOTHING_OPEN;
-    next
+    Counts {
+        rules: st.rules + 1,
+        open: lines::NOTHING_OPEN,
+        ..st
+    }
 }
 
 // The counts with the open definition stored.
@@ -39,10 +34,11 @@ fn with_definition(st: Counts) -> Counts
     requires { Fine st }
     ensures { result ≡ defined_counts st }
 {
-    let mut next = st;
-    next.definitions = st.definitions + 1;
-    next.open = lines::NOTHING_OPEN;
-    next
+    Counts {
+        definitions: st.definitions + 1,
+        open: lines::NOTHING_OPEN,
+        ..st
+    }
 }
 
 // Stores the definition or rule that is open, with its root.
@@ -64,24 +60,24 @@ fn put_down(w0: &mut [u64], st: Counts, root: u64) -> Counts
 }
 
 // Ends the definition or rule that is open, or refuses it with 8; where none is open, nothing changes.
-pub fn end_rule(w0: &mut [u64], w1: &[u64], st: Counts) -> Step
+pub fn end_rule(w0: &mut [u64], w1: &[u64], st: Counts) -> Result<Counts, Refusal>
     requires { (least_words ≤ length w0.old) × (least_words ≤ length w1.now) × Fine st × RuleRoom st }
     ensures { RuleEnded st result w0.old w1.now w0.new }
 {
     if st.open == lines::NOTHING_OPEN {
-        return Step::Next(st);
+        return Ok(st);
     }
     let first = st.first as usize;
     let nodes = st.nodes as usize;
     if first == nodes {
-        return Step::Refused(8);
+        return Err(Refusal::BrokenTree);
     }
     let last = nodes - 1;
     if !all_used(w1, first, last - first) {
-        return Step::Refused(8);
+        return Err(Refusal::BrokenTree);
     }
     if w1[memory::DEPTHS + last] / 2 > memory::MOST_LEVELS {
-        return Step::Refused(8);
+        return Err(Refusal::BrokenTree);
     }
-    Step::Next(put_down(w0, st, last as u64))
+    Ok(put_down(w0, st, last as u64))
 }

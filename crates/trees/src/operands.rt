@@ -9,35 +9,20 @@ ghost use Rattle.shapes.specs.Forms.{operands_at};
 ghost use Rattle.trees.specs.Operands.{shifted, marking, marked, WroteWords};
 
 use crate::calls::DEPTH_CUT;
-use memory::words::{at_most, larger};
-
-// An operand that breaks the tree, or the depth of the deepest operand.
-#[derive(Clone, Copy)]
-pub enum Marked {
-    Malformed,
-    Deepest(u64),
-}
 
 // Whether each operand is a number that a node may have.
 pub fn operands_within(words: [u64; 8], count: usize) -> bool
     requires { (length words ≡ 8) × (count ≤ 4) }
     ensures { result ≡ all_of is_node (operands_at words count) }
 {
-    let mut i: usize = 0;
-    while i < count {
-        if words[1 + i] >= memory::MOST_NODES {
-            return false;
-        }
-        i += 1;
-    }
-    true
+    words[1..=count].iter().all(|&a| a < memory::MOST_NODES)
 }
 
 // The greater of a depth and an operand's depth.
 fn deeper(d: u64, word: u64) -> u64
     ensures { result ≡ max d (min (word / 2) depth_cut) }
 {
-    larger(d, at_most(word / 2, DEPTH_CUT))
+    d.max((word / 2).min(DEPTH_CUT))
 }
 
 // Where depths begin, as a u64 like the numbers of nodes.
@@ -45,27 +30,24 @@ const DEPTHS: u64 = memory::DEPTHS as u64;
 
 // Marks the operands of node n of the definition or rule as used. If one of them breaks the tree, those before it stay marked: the sheet is
 // refused then, and nothing reads them.
-pub fn mark(w1: &mut [u64], words: [u64; 8], count: usize, first: u64, n: u64) -> Marked
+pub fn mark(w1: &mut [u64], words: [u64; 8], count: usize, first: u64, n: u64) -> Option<u64>
     requires { (least_words ≤ length w1.old) × (length words ≡ 8) × (count ≤ 4) × (first + n ≤ most_nodes) }
     ensures { marked result w1.new ≡ marking first n 0 (operands_at words count) w1.old }
 {
     let mut deepest: u64 = 0;
-    let mut i: usize = 0;
-    while i < count {
-        let a = words[1 + i];
+    for &a in &words[1..=count] {
         if a >= n {
-            return Marked::Malformed;
+            return None;
         }
         let at = (DEPTHS + (first + a)) as usize;
         let d = w1[at];
         if d % 2 == 1 {
-            return Marked::Malformed;
+            return None;
         }
         w1[at] = d + 1;
         deepest = deeper(deepest, d);
-        i += 1;
     }
-    Marked::Deepest(deepest)
+    Some(deepest)
 }
 
 // Word k as the node table has it: an operand is numbered through all definitions and rules.
@@ -73,13 +55,11 @@ fn shift(words: [u64; 8], count: usize, first: u64, k: usize) -> u64
     requires { (k < memory.node_words) × (first ≤ most_nodes) × (all_of is_node (operands_at words count) ≡ true) }
     ensures { result ≡ shifted words count first k }
 {
-    if k == 0 {
-        return words[k];
+    if 1 <= k && k <= count {
+        first + words[k]
+    } else {
+        words[k]
     }
-    if k <= count {
-        return first + words[k];
-    }
-    words[k]
 }
 
 // The eight words of node m.
@@ -87,9 +67,7 @@ pub fn put_words(w1: &mut [u64], m: usize, words: [u64; 8], count: usize, first:
     requires { (least_words ≤ length w1.old) × (m < most_nodes) × (first ≤ most_nodes) × (all_of is_node (operands_at words count) ≡ true) }
     ensures { WroteWords (memory.node_words * m) memory.node_words (shifted words count first) w1.old w1.new }
 {
-    let mut k: usize = 0;
-    while k < memory::NODE_WORDS {
+    for k in 0..memory::NODE_WORDS {
         w1[memory::NODE_WORDS * m + k] = shift(words, count, first, k);
-        k += 1;
     }
 }

@@ -16,14 +16,6 @@ use Rattle.types.specs.Flat.{parents_in, base_type, base_tag, base_class}
 use Rattle.types.proofs.Cases.{by_base, is_void, is_any_lem, is_class}
 use Rattle.types.proofs.Parents.{parents_small, any_not_class, class_join}
 
--- ---- Int against Real
-
-pub wide_int : (t u : ℕ) → t ≡ 2 → eqb u 4 ≡ (eqb t 2 && eqb u 4)
-wide_int t u h = rw (eq-eqb t 2 h)
-
-pub wide_no : (t u : ℕ) → (t ≡ 2 → ⊥) → false ≡ (eqb t 2 && eqb u 4)
-wide_no t u h = rw (ne_eqb t 2 h)
-
 module _ (ps : List ℕ) where
   abbrev P : Parents
   P = parents_in ps
@@ -174,11 +166,8 @@ module _ (ps : List ℕ) where
       pub below_wide : (u ≡ 3 → ⊥) → w ≡ true → true ≡ subtype P (base_type a) (base_type x)
       below_wide k e = rw e at (by_tags k)
 
-      pub below_same : (u ≡ 3 → ⊥) → w ≡ false → t ≡ u → true ≡ subtype P (base_type a) (base_type x)
-      below_same k e q = rw (e, eq-eqb t u q) at (by_tags k)
-
-      pub below_other : (u ≡ 3 → ⊥) → w ≡ false → (t ≡ u → ⊥) → false ≡ subtype P (base_type a) (base_type x)
-      below_other k e q = rw (e, ne_eqb t u q) at (by_tags k)
+      pub below_same : (u ≡ 3 → ⊥) → w ≡ false → eqb t u ≡ subtype P (base_type a) (base_type x)
+      below_same k e = rw e at (by_tags k)
 
       module _ (right : u ≡ 0 → ⊥) where
         join_tags : {v : Bool} → v ≡ (eqb u 2 && eqb t 4) → some (base_type (if w then x else if v then a else if eqb t u then a else b.Any)) ≡ join P (base_type a) (base_type x)

@@ -1,19 +1,20 @@
 -- Laws of words and numbers before closing brackets. Assumes nothing.
-use Prim.Native.Nat.{ℕ, zero, suc, ◌+◌, ◌-◌, ◌<◌, ◌≤◌}
+use Prim.Native.Nat.{ℕ, zero, suc, ◌-◌, ◌<◌, ◌≤◌}
 use mathlib.Core.Path.{◌≡◌, refl, sym, ap, ◌∙◌}
 use mathlib.Core.Bool.{Bool, true, false, ◌&&◌}
 use mathlib.Core.Option.{Option, none, some}
 use mathlib.Core.List.{[], ◌∷◌, ◌++◌}
 use native.Mathlib.Omega.{arith}
-use borrow.Author.Tests.{eq-eqb, ne_eqb, eqb-true}
+use borrow.Author.Tests.{eqb-true}
 use lib.Dec.{eqb}
-use lib.ListN.{length, get_or, take, drop, drop_of_length-le, length-append, take-append-drop}
+use Rattle.std.specs.List.{list_all}
+use Rattle.std.specs.Cmp.Lexicographic.{pointwise}
+use lib.ListN.{length, take, drop, length-append, take-append-drop}
 use Rattle.laws.specs.Choice.{on_some, map_some}
 use Rattle.std.specs.Prelude.{if◌then◌else◌}
 use Rattle.laws.proofs.Tests.{and-true, if_same}
-use Rattle.laws.proofs.Parts.{at_next, part_all}
+use Rattle.laws.proofs.Parts.{part_all}
 use Rattle.sheet.specs.Text.{Bytes, is_digit, digits, after_digits, number_parser, whole, after}
-use Rattle.sheet.specs.Lines.{is}
 use Rattle.sheet.proofs.Numbers.{digits_split}
 use Rattle.text.specs.Numbers.{leading}
 use Rattle.text.proofs.NumberLaws.{digits_rest, number_leading, whole_read, whole_left}
@@ -35,51 +36,32 @@ closes_off d s h = go (closes d s) refl
     go true e = absurd (h (closes_length d s e))
     go false e = e
 
--- one turn of `closes`, where i brackets are passed
-module _ (d i : ℕ) (s : Bytes) (long : length s ≡ d) (inv : closes (d - i) (drop i s) ≡ closes d s) where
-  closes_next : i < length s → closes (d - i) (drop i s) ≡ eqb (get_or s i 0) 41 && closes (d - (i + 1)) (drop (i + 1) s)
-  unfolding closes
-  closes_next h = let q : d - i ≡ suc (d - (i + 1)) = omega arith in rw (q, at_next 0 s i h)
-
-  pub closes_stop : i < length s → (get_or s i 0 ≡ 41 → ⊥) → false ≡ closes d s
-  closes_stop h q = sym (ap (λ (t : Bool). t && closes (d - (i + 1)) (drop (i + 1) s)) (ne_eqb _ _ q)) ∙ sym (closes_next h) ∙ inv
-
-  pub closes_more : i < length s → get_or s i 0 ≡ 41 → closes (d - (i + 1)) (drop (i + 1) s) ≡ closes d s
-  closes_more h q = sym (ap (λ (t : Bool). t && closes (d - (i + 1)) (drop (i + 1) s)) (eq-eqb _ _ q)) ∙ sym (closes_next h) ∙ inv
-
-  pub closes_end : length s ≤ i → true ≡ closes d s
-  unfolding closes
-  closes_end h = let q : d - i ≡ 0 = omega arith in (rw (q, drop_of_length-le s h) at inv)
+pub closes_all : (d : ℕ) (s : Bytes) → length s ≡ d → list_all (λ b. eqb b 41) s ≡ closes d s
+unfolding closes
+closes_all zero [] e = refl
+closes_all zero (b ∷ s) e = absurd (omega arith)
+closes_all (suc d) [] e = absurd (omega arith)
+closes_all (suc d) (b ∷ s) e = ap (λ (t : Bool). eqb b 41 && t) (closes_all d s (omega arith))
 
 -- ---- a word, then closing brackets
 
-pub spells_short : (w : Bytes) (d : ℕ) (s : Bytes) → length s < length w → false ≡ spells w d s
-unfolding spells
-spells_short [] d s h = absurd (omega arith)
-spells_short (p ∷ w) d [] h = refl
-spells_short (p ∷ w) d (b ∷ s) h = go (eqb p b) (spells_short w d s (omega arith))
-  where
-    go : (t : Bool) → false ≡ spells w d s → false ≡ t && spells w d s
-    go true e = e
-    go false e = refl
-
 -- what `spells` answers by the word and by what follows it
-spells_at : (w : Bytes) (d : ℕ) (s : Bytes) → length w ≤ length s → spells w d s ≡ is w (take (length w) s) && closes d (drop (length w) s)
-unfolding spells is
-spells_at [] d s h = refl
-spells_at (p ∷ w) d [] h = absurd (omega arith)
-spells_at (p ∷ w) d (b ∷ s) h = go (eqb p b) (spells_at w d s (omega arith))
+spells_at : (w : Bytes) (d : ℕ) (s : Bytes) → spells w d s ≡ pointwise eqb w (take (length w) s) && closes d (drop (length w) s)
+unfolding spells
+spells_at [] d s = refl
+spells_at (p ∷ w) d [] = refl
+spells_at (p ∷ w) d (b ∷ s) = go (eqb p b) (spells_at w d s)
   where
-    go : (t : Bool) → spells w d s ≡ is w (take (length w) s) && closes d (drop (length w) s) → t && spells w d s ≡ (t && is w (take (length w) s)) && closes d (drop (length w) s)
+    go : (t : Bool) → spells w d s ≡ pointwise eqb w (take (length w) s) && closes d (drop (length w) s) → t && spells w d s ≡ (t && pointwise eqb w (take (length w) s)) && closes d (drop (length w) s)
     go true e = e
     go false e = refl
 
-module _ (w : Bytes) (d : ℕ) (s : Bytes) (fits : length w ≤ length s) where
-  pub spells_off : false ≡ is w (take (length w) s) → false ≡ spells w d s
-  spells_off e = sym (spells_at w d s fits ∙ rw (← e))
+module _ (w : Bytes) (d : ℕ) (s : Bytes) where
+  pub spells_off : false ≡ pointwise eqb w (take (length w) s) → false ≡ spells w d s
+  spells_off e = sym (spells_at w d s ∙ rw (← e))
 
-  pub spells_on : true ≡ is w (take (length w) s) → closes d (take (length s - length w) (drop (length w) s)) ≡ spells w d s
-  spells_on e = ap (closes d) (part_all s (length w)) ∙ sym (spells_at w d s fits ∙ rw (← e))
+  pub spells_on : true ≡ pointwise eqb w (take (length w) s) → closes d (take (length s - length w) (drop (length w) s)) ≡ spells w d s
+  spells_on e = ap (closes d) (part_all s (length w)) ∙ sym (spells_at w d s ∙ rw (← e))
 
 -- what a word's literal reads, before closing brackets
 pub literal_closed : {A : Type 0} (x : A) (w : Bytes) (d : ℕ) (s : Bytes) → on_some (map_some (λ (r : Bytes). (x, r)) (after w s)) (closed d) ≡ (if spells w d s then some x else none)

@@ -12,10 +12,9 @@ use Rattle.ocl.proofs.Types.{same_kind_refl}
 use Rattle.types.specs.declared.Base.{Base}
 use Rattle.types.specs.declared.Base.TheVariants as b
 use Rattle.types.specs.declared.FlatType.{FlatType}
-use Rattle.types.specs.declared.Joined.{Joined}
-use Rattle.types.specs.declared.Joined.TheVariants as j
 use Rattle.types.specs.Flat.{base_type, base_tag, letter_of, layer, ty_of, under, bare, level, joined_type, type_to, joined_to, JoinsOneMore}
 use Rattle.types.proofs.Cases.{by_base, by_simple, is_void}
+use Rattle.std.specs.Prelude.{Option as Optional, Some, None}
 
 -- ---- letters
 
@@ -185,28 +184,28 @@ inner_free (suc zero) f h = refl
 inner_free (suc (suc zero)) f h = refl
 inner_free (suc (suc (suc d))) f h = absurd (omega arith)
 
-module _ (parent : Parents) (e : Base) (f g : FlatType) (inner : Joined) where
-  pub join_ends : f.outer ≡ 0 → g.outer ≡ 0 → (t : FlatType) → t ≡ bare e → JoinsOneMore parent e f g inner (j.Is t)
+module _ (parent : Parents) (e : Base) (f g : FlatType) (inner : Optional FlatType) where
+  pub join_ends : f.outer ≡ 0 → g.outer ≡ 0 → (t : FlatType) → t ≡ bare e → JoinsOneMore parent e f g inner (Some t)
   unfolding joined_to type_to layer
   join_ends p q t n = record { step = λ h d l i. rw (n, p, q) h }
 
-  pub join_left : f.outer ≡ 0 → base_tag f.base ≡ 0 → JoinsOneMore parent e f g inner (j.Is g)
+  pub join_left : f.outer ≡ 0 → base_tag f.base ≡ 0 → JoinsOneMore parent e f g inner (Some g)
   unfolding joined_to type_to layer
   join_left p t = record { step = λ h d l i. rw p (void_left parent f.base _ t) }
 
-  pub join_no_left : f.outer ≡ 0 → (g.outer ≡ 0 → ⊥) → (base_tag f.base ≡ 0 → ⊥) → JoinsOneMore parent e f g inner j.Nothing
+  pub join_no_left : f.outer ≡ 0 → (g.outer ≡ 0 → ⊥) → (base_tag f.base ≡ 0 → ⊥) → JoinsOneMore parent e f g inner None
   unfolding joined_to type_to layer
   join_no_left p q t = record { step = λ h d l i. rw (layer_on g.outer (base_type g.base) (type_to d (under g)) q, p) (no_left parent f.base (letter_of g.outer) (type_to d (under g)) t) }
 
-  pub join_right : (f.outer ≡ 0 → ⊥) → g.outer ≡ 0 → base_tag g.base ≡ 0 → JoinsOneMore parent e f g inner (j.Is f)
+  pub join_right : (f.outer ≡ 0 → ⊥) → g.outer ≡ 0 → base_tag g.base ≡ 0 → JoinsOneMore parent e f g inner (Some f)
   unfolding joined_to type_to layer
   join_right p q t = record { step = λ h d l i. rw (layer_on f.outer (base_type f.base) (type_to d (under f)) p, q) (void_right parent g.base (letter_of f.outer) (type_to d (under f)) t) }
 
-  pub join_no_right : (f.outer ≡ 0 → ⊥) → g.outer ≡ 0 → (base_tag g.base ≡ 0 → ⊥) → JoinsOneMore parent e f g inner j.Nothing
+  pub join_no_right : (f.outer ≡ 0 → ⊥) → g.outer ≡ 0 → (base_tag g.base ≡ 0 → ⊥) → JoinsOneMore parent e f g inner None
   unfolding joined_to type_to layer
   join_no_right p q t = record { step = λ h d l i. rw (layer_on f.outer (base_type f.base) (type_to d (under f)) p, q) (no_right parent g.base (letter_of f.outer) (type_to d (under f)) t) }
 
-  pub join_nothing : (f.outer ≡ 0 → ⊥) → (g.outer ≡ 0 → ⊥) → inner ≡ j.Nothing → JoinsOneMore parent e f g inner inner
+  pub join_nothing : (f.outer ≡ 0 → ⊥) → (g.outer ≡ 0 → ⊥) → inner ≡ None → JoinsOneMore parent e f g inner inner
   unfolding joined_to type_to join around_some
   join_nothing p q n = record {
     step = λ h d l i.
@@ -214,7 +213,7 @@ module _ (parent : Parents) (e : Base) (f g : FlatType) (inner : Joined) where
         rw (n, layer_on f.outer (base_type f.base) (type_to d (under f)) p, layer_on g.outer (base_type g.base) (type_to d (under g)) q, ← z) refl;
   }
 
-  pub join_both : (t : FlatType) (m : ℕ) → (f.outer ≡ 0 → ⊥) → (g.outer ≡ 0 → ⊥) → inner ≡ j.Is t → (0 < m) × (letter_of m ≡ letter_join (letter_of f.outer) (letter_of g.outer)) → JoinsOneMore parent e f g inner (j.Is (record { base = t.base; outer = m; middle = t.outer; inner = t.middle }))
+  pub join_both : (t : FlatType) (m : ℕ) → (f.outer ≡ 0 → ⊥) → (g.outer ≡ 0 → ⊥) → inner ≡ Some t → (0 < m) × (letter_of m ≡ letter_join (letter_of f.outer) (letter_of g.outer)) → JoinsOneMore parent e f g inner (Some (record { base = t.base; outer = m; middle = t.outer; inner = t.middle }))
   unfolding joined_to type_to join around_some
   join_both t m p q n w = record {
     step = λ h d l i.
@@ -224,13 +223,13 @@ module _ (parent : Parents) (e : Base) (f g : FlatType) (inner : Joined) where
   }
 
 -- the three levels
-joined_whole : (x : Joined) → joined_to 3 x ≡ joined_type x
+joined_whole : (x : Optional FlatType) → joined_to 3 x ≡ joined_type x
 unfolding joined_to joined_type type_to
-joined_whole (j.Is f) = refl
-joined_whole j.Nothing = refl
+joined_whole (Some f) = refl
+joined_whole None = refl
 
-pub join_law : (parent : Parents) (e : Base) (f g : FlatType) (x y r : Joined) → some (base_type e) ≡ join parent (base_type f.base) (base_type g.base)
-    → JoinsOneMore parent e (under (under f)) (under (under g)) (j.Is (bare e)) x → JoinsOneMore parent e (under f) (under g) x y → JoinsOneMore parent e f g y r
+pub join_law : (parent : Parents) (e : Base) (f g : FlatType) (x y r : Optional FlatType) → some (base_type e) ≡ join parent (base_type f.base) (base_type g.base)
+    → JoinsOneMore parent e (under (under f)) (under (under g)) (Some (bare e)) x → JoinsOneMore parent e (under f) (under g) x y → JoinsOneMore parent e f g y r
     → joined_type r ≡ join parent (ty_of f) (ty_of g)
 unfolding type_to joined_to
 join_law parent e f g x y r h a c d =

@@ -1,16 +1,15 @@
 -- Laws of a type's parts. Assumes nothing.
 use mathlib.Core.Path.{◌≡◌, refl, sym, ap, ◌∙◌}
-use mathlib.Core.Bool.{Bool, false}
+use mathlib.Core.Bool.{true, false}
 use mathlib.Core.Option.{none, some, none-ne-some, some-injective}
 use Prim.Native.Nat.{ℕ, zero, suc, ◌≤◌, ◌<◌}
 use native.Mathlib.Omega.{arith}
-use lib.Dec.{eqb}
 use Rattle.ocl.specs.Types.{any, boolean, integer, real, class, set, sequence, bag, Letter, collection, exactly, Ty, void, simple, around, Class, depth}
 use Rattle.ocl.specs.Typing.{on_collection}
 use Rattle.types.specs.declared.Base.{Base}
 use Rattle.types.specs.declared.Base.TheVariants as b
 use Rattle.types.specs.declared.FlatType.{FlatType}
-use Rattle.types.specs.Flat.{base_type, base_tag, letter_of, layer, ty_of, under, bare}
+use Rattle.types.specs.Flat.{base_type, letter_of, layer, ty_of, under, bare}
 use Rattle.types.specs.Parts.{code_of, outer_code, member_type, simple_class, class_of, is_any}
 use Rattle.types.proofs.Cases.{by_base, other_letter}
 use Rattle.types.proofs.Levels.{layer_on}
@@ -157,18 +156,34 @@ class_on t h = sym (ap class_of (goes_on t h))
 pub class_ends : (t : FlatType) (a : Base) → t.outer ≡ 0 → t.base ≡ a → class_of (base_type a) ≡ class_of (ty_of t)
 class_ends t a e q = ap (λ (x : Base). class_of (base_type x)) (sym q) ∙ ap class_of (sym (ends t e))
 
+no_class : (a : Base) → ((c : ℕ) → a ≡ b.Class c → ⊥) → none ≡ class_of (base_type a)
+unfolding class_of simple_class
+no_class b.Void h = refl
+no_class b.Bool h = refl
+no_class b.Int h = refl
+no_class b.Any h = refl
+no_class b.Real h = refl
+no_class (b.Class c) h = absurd (h c refl)
+
+pub class_not : (t : FlatType) → t.outer ≡ 0 → ((c : ℕ) → t.base ≡ b.Class c → ⊥) → none ≡ class_of (ty_of t)
+class_not t e h = no_class t.base h ∙ ap class_of (sym (ends t e))
+
 pub any_on : (t : FlatType) → (t.outer ≡ 0 → ⊥) → false ≡ is_any (ty_of t)
 unfolding is_any
 any_on t h = sym (ap is_any (goes_on t h))
 
-any_base : (a : Base) → eqb (base_tag a) 3 ≡ is_any (base_type a)
+pub any_ends : (t : FlatType) → t.outer ≡ 0 → t.base ≡ b.Any → true ≡ is_any (ty_of t)
 unfolding is_any
-any_base b.Void = refl
-any_base b.Bool = refl
-any_base b.Int = refl
-any_base b.Any = refl
-any_base b.Real = refl
-any_base (b.Class c) = refl
+any_ends t e q = sym (ap is_any (ends t e) ∙ ap (λ (x : Base). is_any (base_type x)) q)
 
-pub any_ends : (t : FlatType) (v : ℕ) → t.outer ≡ 0 → v ≡ base_tag t.base → eqb v 3 ≡ is_any (ty_of t)
-any_ends t v e q = ap (λ (x : ℕ). eqb x 3) q ∙ any_base t.base ∙ ap is_any (sym (ends t e))
+no_any : (a : Base) → (a ≡ b.Any → ⊥) → false ≡ is_any (base_type a)
+unfolding is_any
+no_any b.Void h = refl
+no_any b.Bool h = refl
+no_any b.Int h = refl
+no_any b.Any h = absurd (h refl)
+no_any b.Real h = refl
+no_any (b.Class c) h = refl
+
+pub any_not : (t : FlatType) → t.outer ≡ 0 → (t.base ≡ b.Any → ⊥) → false ≡ is_any (ty_of t)
+any_not t e h = no_any t.base h ∙ ap is_any (sym (ends t e))

@@ -3,46 +3,20 @@ use mathlib.Core.Path.{◌≡◌, refl, sym, ap, ◌∙◌, fun_ext}
 use mathlib.Core.Bool.{Bool, true, false, ◌&&◌, true≢false}
 use mathlib.Core.Option.{Option, none, some}
 use mathlib.Core.List.{List}
-use Prim.Native.Nat.{ℕ, zero, suc, ◌+◌, ◌-◌, ◌≤◌, ◌<◌}
+use Prim.Native.Nat.{ℕ, zero, suc, ◌-◌, ◌≤◌, ◌<◌}
 use native.Mathlib.Omega.{arith}
 use lib.ListN.{get_or}
 use lib.Dec.{eqb, ltb}
 use borrow.Author.Tests.{eq-eqb, ne_eqb, ltb-true, ltb-false}
 use Rattle.laws.specs.Choice.{or_else, on_some}
-use Rattle.std.specs.Prelude.{if◌then◌else◌}
+use Rattle.std.specs.Prelude.{if◌then◌else◌, Option as Optional, Some, None}
 use Rattle.ocl.specs.Types.{Parents}
 use Rattle.ocl.specs.Model.{Schema, declared, nearest, row_read}
-use Rattle.types.specs.declared.RowFound.{RowFound}
-use Rattle.types.specs.declared.RowFound.TheVariants as f
 use Rattle.types.specs.Flat.{parent_word, parents_in}
 use Rattle.types.specs.Rows.{declared_in, nearest_in, row_read_in, found, Unnamed}
 use Rattle.types.proofs.Parents.{parent_le, parent_none, parent_some}
 
 -- ---- rows of other names
-
-module _ {names : List ℕ} {name : ℕ} where
-  pub unnamed_none : {n : ℕ} → Unnamed names name n n
-  unnamed_none = record { other = λ i p q e. omega arith }
-
-  pub none_left : {n high : ℕ} → n ≤ 0 → Unnamed names name n high → Unnamed names name 0 high
-  none_left h u = record { other = λ i p q. u.other i (omega arith) q }
-
-  join_by : {low mid high : ℕ} → Unnamed names name low mid → Unnamed names name mid high → (i : ℕ) → low ≤ i → i < high
-      → (b : Bool) → ltb i mid ≡ b → get_or names i 0 ≡ name → ⊥
-  join_by {mid = mid} u v i p q true e = u.other i p (ltb-true i mid e)
-  join_by {mid = mid} u v i p q false e = v.other i (ltb-false i mid e) q
-
-  unnamed_join : {low mid high : ℕ} → Unnamed names name low mid → Unnamed names name mid high → Unnamed names name low high
-  unnamed_join {mid = mid} u v = record { other = λ i p q. join_by u v i p q (ltb i mid) refl }
-
-  unnamed_one : {n : ℕ} → (get_or names n 0 ≡ name → ⊥) → Unnamed names name n (n + 1)
-  unnamed_one {n} h = record { other = λ i p q e. let z : i ≡ n = omega arith in h (ap (λ (j : ℕ). get_or names j 0) (sym z) ∙ e) }
-
-  pub unnamed_up : {n : ℕ} → Unnamed names name 0 n → (get_or names n 0 ≡ name → ⊥) → Unnamed names name 0 (n + 1)
-  unnamed_up u h = unnamed_join u (unnamed_one h)
-
-  pub unnamed_down : {n high : ℕ} → 0 < n → Unnamed names name n high → (get_or names (n - 1) 0 ≡ name → ⊥) → Unnamed names name (n - 1) high
-  unnamed_down {n} {high} p u h = let z : n - 1 + 1 ≡ n = omega arith in unnamed_join (unnamed_one h) (rw z u)
 
 -- a row of another name is passed by
 other_name : (a b : Bool) (x y : Option ℕ) → b ≡ false → (if a && b then x else y) ≡ y
@@ -102,16 +76,16 @@ module _ (ps owners names : List ℕ) (rows name : ℕ) where
       go ih zero e = rw (parent_none ps c e)
       go ih (suc q) e = rw (parent_some ps c (suc q) (sym e) (λ z. omega arith)) (ih (suc q - 1) (omega (arith, parent_le ps c)) (omega (arith, parent_le ps c)))
 
-  module _ (c : ℕ) (r : RowFound) (at : found r ≡ declared_in owners names c name rows) where
-    pub read_here : (i : ℕ) → r ≡ f.At i → found r ≡ row_read_in ps owners names rows c name
+  module _ (c : ℕ) (r : Optional ℕ) (at : found r ≡ declared_in owners names c name rows) where
+    pub read_here : (i : ℕ) → r ≡ Some i → found r ≡ row_read_in ps owners names rows c name
     unfolding row_read_in nearest_in found or_else
     read_here i e = rw (sym at, e)
 
-    pub read_none : r ≡ f.Nothing → 0 ≡ parent_word ps c → none ≡ row_read_in ps owners names rows c name
+    pub read_none : r ≡ None → 0 ≡ parent_word ps c → none ≡ row_read_in ps owners names rows c name
     unfolding row_read_in nearest_in found or_else on_some
     read_none e z = rw (sym at, e, parent_none ps c (sym z))
 
-    pub read_up : (q : ℕ) → r ≡ f.Nothing → q ≡ parent_word ps c → (q ≡ 0 → ⊥) → row_read_in ps owners names rows (q - 1) name ≡ row_read_in ps owners names rows c name
+    pub read_up : (q : ℕ) → r ≡ None → q ≡ parent_word ps c → (q ≡ 0 → ⊥) → row_read_in ps owners names rows (q - 1) name ≡ row_read_in ps owners names rows c name
     unfolding row_read_in nearest_in found or_else on_some
     read_up q e w z = sym (rw (sym at, e, parent_some ps c q w z) (nearest_more c (suc (q - 1)) (q - 1) (omega (arith, parent_le ps c)) (omega arith)))
 

@@ -12,23 +12,21 @@ use lib.Dec.{eqb, leb, ltb}
 use lib.ListN.{length, get_or, take, drop, length-drop, get_or-eq_default}
 use lib.Seq.{get_or-drop, drop-drop}
 use Rattle.laws.specs.Choice.{on_some, map_some}
-use Rattle.std.specs.Prelude.{if◌then◌else◌}
+use Rattle.std.specs.Prelude.{if◌then◌else◌, Option as Optional, Some, Result, Ok, Err}
 use Rattle.laws.proofs.Parts.{part_all}
 use Rattle.ocl.specs.Types.{Letter, Ty, void, around, Any, Boolean, Integer, Real, Class, depth}
 use Rattle.sheet.specs.Text.{Bytes, bytes}
 use Rattle.sheet.specs.Lines.{a_number}
 use Rattle.sheet.specs.Limits.{type_within, class_below, simple_class_below}
 use Rattle.sheet.specs.Spelling.{read_type}
-use Rattle.text.specs.declared.numbers.Num.{Num}
-use Rattle.text.specs.declared.numbers.Num.TheVariants as n
 use Rattle.text.specs.Numbers.{cut_num}
-use Rattle.types.specs.declared.GotType.{GotType}
-use Rattle.types.specs.declared.GotType.TheVariants as g
 use Rattle.types.specs.declared.FlatType.{FlatType}
 use Rattle.types.specs.Flat.{letter_of, ty_of}
 use Rattle.types.specs.Reading.{TypeField, bad, big, is, type_field, held, closes, spells, base_before, hash_before, number_before, byte_code, code_letter, lettered, type_before, opens_of, Opens, deeper, lettered_field, class_field}
 use Rattle.types.proofs.Closing.{number_short, number_off, number_closed}
 use Rattle.types.proofs.Spelled.{base_law, hash_none, hash_off, hash_on, read_law}
+use Rattle.memory.specs.declared.refusals.Misread.{Misread}
+use Rattle.memory.specs.declared.refusals.Misread.TheVariants.{Malformed, OverLimit}
 
 -- ---- how many brackets lead
 
@@ -73,17 +71,17 @@ two_more : (s : Bytes) (k m : ℕ) → m ≡ k + 2 → drop m s ≡ drop 2 (drop
 two_more s k m e = rw e (sym (drop-drop 2 k s))
 
 -- one turn of `opens`, where d brackets are passed
-module _ (s : Bytes) (d i : ℕ) (at : i ≡ d + d + 1) (inv : d + opens_of (drop (d + d) s) ≡ opens_of s) where
-  second : get_or (drop (d + d) s) 1 0 ≡ get_or s i 0
-  second = get_or-drop (d + d) s 1 0 ∙ ap (λ (k : ℕ). get_or s k 0) (sym at)
+module _ (s : Bytes) (d : ℕ) (inv : d + opens_of (drop (d + d) s) ≡ opens_of s) where
+  second : get_or (drop (d + d) s) 1 0 ≡ get_or s (d + d + 1) 0
+  second = get_or-drop (d + d) s 1 0
 
-  pub opens_stop : (get_or s i 0 ≡ 40 → ⊥) → d ≡ opens_of s
+  pub opens_stop : (get_or s (d + d + 1) 0 ≡ 40 → ⊥) → d ≡ opens_of s
   opens_stop q = omega (arith, opens_no (drop (d + d) s) (λ e. q (sym second ∙ e)))
 
-  pub opens_end : length s ≤ i → d ≡ opens_of s
-  opens_end l = opens_stop (λ e. absurd (let z : get_or s i 0 ≡ 0 = get_or-eq_default s 0 l in omega arith))
+  pub opens_end : length s ≤ d + d + 1 → d ≡ opens_of s
+  opens_end l = opens_stop (λ e. absurd (let z : get_or s (d + d + 1) 0 ≡ 0 = get_or-eq_default s 0 l in omega arith))
 
-  pub opens_more : i < length s → get_or s i 0 ≡ 40 → (d + 1) + opens_of (drop ((d + 1) + (d + 1)) s) ≡ opens_of s
+  pub opens_more : d + d + 1 < length s → get_or s (d + d + 1) 0 ≡ 40 → (d + 1) + opens_of (drop ((d + 1) + (d + 1)) s) ≡ opens_of s
   opens_more l q =
       rw (two_more s (d + d) ((d + 1) + (d + 1)) (omega arith)) (omega (arith, opens_two (drop (d + d) s) (simp length-drop (omega arith)) (second ∙ q)))
 
@@ -130,22 +128,22 @@ module _ (s : Bytes) (d : ℕ) (to : Opens s d) where
       rw ((opens_some t i (omega (arith, opens_left s i (omega (arith, to.is)), to.is))).1, b, two_more s (i + i) (suc i + suc i) (omega arith))
       (sym (letter_held (byte_code (get_or s (i + i) 0)) (type_before (suc i) (drop 2 t))))
 
-  pub letter_next : (i j : ℕ) (g r : GotType) → i ≡ j - 1 → 0 < j → j ≤ d → type_field g ≡ held (type_before j (drop (j + j) s)) → type_field r ≡ lettered_field (byte_code (get_or s (i + i) 0)) (type_field g) → type_field r ≡ held (type_before i (drop (i + i) s))
+  pub letter_next : (i j : ℕ) (g r : Result FlatType Misread) → i ≡ j - 1 → 0 < j → j ≤ d → type_field g ≡ held (type_before j (drop (j + j) s)) → type_field r ≡ lettered_field (byte_code (get_or s (i + i) 0)) (type_field g) → type_field r ≡ held (type_before i (drop (i + i) s))
   letter_next i j g r q z l e h = let k : j ≡ suc i = omega arith in h ∙ ap (lettered_field (byte_code (get_or s (i + i) 0))) (rw k at e) ∙ letter_in i (omega arith)
 
-  pub letters_start : (g : GotType) → type_field g ≡ held (base_before d (take (length s - (d + d)) (drop (d + d) s))) → type_field g ≡ held (type_before d (drop (d + d) s))
+  pub letters_start : (g : Result FlatType Misread) → type_field g ≡ held (base_before d (take (length s - (d + d)) (drop (d + d) s))) → type_field g ≡ held (type_before d (drop (d + d) s))
   letters_start g e = e ∙ ap held (ap (base_before d) (part_all s (d + d)) ∙ sym (opens_base (drop (d + d) s) d (omega (arith, opens_left s d (omega (arith, to.is)), to.is))))
 
-pub letters_end : (s : Bytes) (j : ℕ) (g : GotType) → j ≤ 0 → type_field g ≡ held (type_before j (drop (j + j) s)) → type_field g ≡ held (read_type s)
+pub letters_end : (s : Bytes) (j : ℕ) (g : Result FlatType Misread) → j ≤ 0 → type_field g ≡ held (type_before j (drop (j + j) s)) → type_field g ≡ held (read_type s)
 letters_end s j g h e = let z : j ≡ 0 = omega arith in (rw z at e) ∙ ap held (sym (read_law s))
 
 -- ---- the bases
 
-pub is_field : (x : Ty) (t : FlatType) {o : Option Ty} → o ≡ some x → ty_of t ≡ x → type_within x ≡ true → type_field (g.Is t) ≡ held o
+pub is_field : (x : Ty) (t : FlatType) {o : Option Ty} → o ≡ some x → ty_of t ≡ x → type_within x ≡ true → type_field (Ok t) ≡ held o
 unfolding type_field held
 is_field x t e q w = rw (e, q, w)
 
-pub bad_field : {o : Option Ty} → o ≡ none → type_field g.Bad ≡ held o
+pub bad_field : {o : Option Ty} → o ≡ none → type_field (Err Malformed) ≡ held o
 unfolding type_field held
 bad_field e = rw e
 
@@ -202,23 +200,23 @@ class_held (some m) = by (dec_lt m 64)
     by (no h) = rw (le-ltb (min m 1000000) 64 (omega arith), le-ltb m 64 (omega arith))
 
 module _ (d : ℕ) (s : Bytes) where
-  pub class_short : length s < d → type_field g.Bad ≡ held (map_some Class (number_before d s))
+  pub class_short : length s < d → type_field (Err Malformed) ≡ held (map_some Class (number_before d s))
   unfolding map_some
   class_short h = bad_field (ap (map_some Class) (number_short d s h))
 
-  pub class_off : false ≡ closes d (take (length s - (length s - d)) (drop (length s - d) s)) → type_field g.Bad ≡ held (map_some Class (number_before d s))
+  pub class_off : false ≡ closes d (take (length s - (length s - d)) (drop (length s - d) s)) → type_field (Err Malformed) ≡ held (map_some Class (number_before d s))
   unfolding map_some
   class_off e = bad_field (ap (map_some Class) (number_off d s (sym (ap (closes d) (part_all s (length s - d))) ∙ sym e)))
 
-  pub class_on : {m : Num} (r : GotType) → true ≡ closes d (take (length s - (length s - d)) (drop (length s - d) s)) → m ≡ cut_num (a_number (take (length s - d) s)) → type_field r ≡ class_field m → type_field r ≡ held (map_some Class (number_before d s))
+  pub class_on : {m : Optional ℕ} (r : Result FlatType Misread) → true ≡ closes d (take (length s - (length s - d)) (drop (length s - d) s)) → m ≡ cut_num (a_number (take (length s - d) s)) → type_field r ≡ class_field m → type_field r ≡ held (map_some Class (number_before d s))
   unfolding a_number
   class_on r e q h = h ∙ ap class_field q ∙ class_held _ ∙ ap (λ (o : Option ℕ). held (map_some Class o)) (sym (number_closed d (length s - d) s (sym (ap (closes d) (part_all s (length s - d))) ∙ sym e)))
 
-pub small_class : (m : Num) (c : ℕ) (t : FlatType) → m ≡ n.Is c → c < 64 → ty_of t ≡ Class c → type_field (g.Is t) ≡ class_field m
+pub small_class : (m : Optional ℕ) (c : ℕ) (t : FlatType) → m ≡ Some c → c < 64 → ty_of t ≡ Class c → type_field (Ok t) ≡ class_field m
 unfolding type_field class_field
 small_class m c t e h q = rw (e, lt-ltb c 64 h, q)
 
-pub big_class : (m : Num) (c : ℕ) → m ≡ n.Is c → 64 ≤ c → type_field g.Big ≡ class_field m
+pub big_class : (m : Optional ℕ) (c : ℕ) → m ≡ Some c → 64 ≤ c → type_field (Err OverLimit) ≡ class_field m
 unfolding type_field class_field
 big_class m c e h = rw (e, le-ltb c 64 h)
 
@@ -237,28 +235,25 @@ unfolding lettered_field
 field_on zero x h = absurd (h refl)
 field_on (suc k) x h = refl
 
-pub deeper_wrap : (k : ℕ) (t r : FlatType) → 0 < k → depth (ty_of t) < 3 → ty_of r ≡ around (letter_of k) (ty_of t) → type_field (g.Is r) ≡ lettered_field k (is (ty_of t))
+pub deeper_wrap : (k : ℕ) (t r : FlatType) → 0 < k → depth (ty_of t) < 3 → ty_of r ≡ around (letter_of k) (ty_of t) → type_field (Ok r) ≡ lettered_field k (is (ty_of t))
 unfolding type_field deeper
 deeper_wrap k t r z h e = sym (field_on k (is (ty_of t)) (λ q. omega arith) ∙ rw (lt-ltb (depth (ty_of t)) 3 h, e))
 
-pub deeper_full : (k : ℕ) (t : FlatType) → 0 < k → 3 ≤ depth (ty_of t) → type_field g.Big ≡ lettered_field k (is (ty_of t))
+pub deeper_full : (k : ℕ) (t : FlatType) → 0 < k → 3 ≤ depth (ty_of t) → type_field (Err OverLimit) ≡ lettered_field k (is (ty_of t))
 unfolding type_field deeper
 deeper_full k t z h = sym (field_on k (is (ty_of t)) (λ q. omega arith) ∙ rw (le-ltb (depth (ty_of t)) 3 h))
 
-module _ (b k : ℕ) (x : GotType) (at : k ≡ byte_code b) where
-  pub lettered_none : k ≡ 0 → type_field g.Bad ≡ lettered_field (byte_code b) (type_field x)
+module _ (b k : ℕ) (x : Result FlatType Misread) (at : k ≡ byte_code b) where
+  pub lettered_none : k ≡ 0 → type_field (Err Malformed) ≡ lettered_field (byte_code b) (type_field x)
   unfolding type_field
   lettered_none z = field_none (type_field x) ∙ ap (λ (m : ℕ). lettered_field m (type_field x)) (sym z ∙ at)
 
   module _ (on : k ≡ 0 → ⊥) where
-    pub lettered_bad : x ≡ g.Bad → type_field g.Bad ≡ lettered_field (byte_code b) (type_field x)
+    pub lettered_misread : {m : Misread} → x ≡ Err m → type_field (Err m) ≡ lettered_field (byte_code b) (type_field x)
     unfolding type_field deeper
-    lettered_bad e = sym (field_on (byte_code b) (type_field x) (λ q. on (at ∙ q)) ∙ rw e)
+    lettered_misread {m = Malformed} e = sym (field_on (byte_code b) (type_field x) (λ q. on (at ∙ q)) ∙ rw e)
+    lettered_misread {m = OverLimit} e = sym (field_on (byte_code b) (type_field x) (λ q. on (at ∙ q)) ∙ rw e)
 
-    pub lettered_big : x ≡ g.Big → type_field g.Big ≡ lettered_field (byte_code b) (type_field x)
-    unfolding type_field deeper
-    lettered_big e = sym (field_on (byte_code b) (type_field x) (λ q. on (at ∙ q)) ∙ rw e)
-
-    pub lettered_is : (t : FlatType) (r : GotType) → x ≡ g.Is t → type_field r ≡ lettered_field k (is (ty_of t)) → type_field r ≡ lettered_field (byte_code b) (type_field x)
+    pub lettered_is : (t : FlatType) (r : Result FlatType Misread) → x ≡ Ok t → type_field r ≡ lettered_field k (is (ty_of t)) → type_field r ≡ lettered_field (byte_code b) (type_field x)
     unfolding type_field
     lettered_is t r e h = h ∙ rw (at, e)

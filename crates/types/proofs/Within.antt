@@ -7,17 +7,17 @@ use Prim.Native.Nat.{ℕ, zero, suc, ◌<◌}
 use native.Mathlib.Omega.{arith}
 use borrow.Author.Tests.{ltb-true}
 use lib.Dec.{leb}
-use Rattle.std.specs.Prelude.{if◌then◌else◌}
+use Rattle.std.specs.Prelude.{if◌then◌else◌, Result, Ok, Err}
 use Rattle.laws.proofs.Tests.{and-true}
 use Rattle.ocl.specs.Types.{Ty, depth}
 use Rattle.sheet.specs.Limits.{type_within, class_below, simple_class_below}
-use Rattle.types.specs.declared.GotType.{GotType}
-use Rattle.types.specs.declared.GotType.TheVariants as g
 use Rattle.types.specs.declared.Base.{Base}
 use Rattle.types.specs.declared.Base.TheVariants as b
 use Rattle.types.specs.declared.FlatType.{FlatType}
 use Rattle.types.specs.Flat.{base_type, base_class, layer, ty_of}
 use Rattle.types.specs.Reading.{bad, big, is, type_field, held}
+use Rattle.memory.specs.declared.refusals.Misread.{Misread}
+use Rattle.memory.specs.declared.refusals.Misread.TheVariants.{Malformed, OverLimit}
 
 -- ---- by the answer
 
@@ -48,16 +48,16 @@ held_is (some u) t h = go (type_within u) refl h
     go true e h = let z : t ≡ u = cc in (ap some (sym z), rw z (sym e))
     go false e h = absurd (let z : ◌≡◌ {A = ℕ} 0 1 = cc in omega arith)
 
-module _ {r : GotType} (o : Option Ty) (read : type_field r ≡ held o) where
-  pub read_bad : r ≡ g.Bad → o ≡ none
+module _ {r : Result FlatType Misread} (o : Option Ty) (read : type_field r ≡ held o) where
+  pub read_bad : r ≡ Err Malformed → o ≡ none
   unfolding type_field
   read_bad e = held_bad o (rw e at read)
 
-  pub read_big : r ≡ g.Big → (t : Ty) × (o ≡ some t) × (type_within t ≡ false)
+  pub read_big : r ≡ Err OverLimit → (t : Ty) × (o ≡ some t) × (type_within t ≡ false)
   unfolding type_field
   read_big e = held_big o (rw e at read)
 
-  pub read_is : (t : FlatType) → r ≡ g.Is t → (o ≡ some (ty_of t)) × (type_within (ty_of t) ≡ true)
+  pub read_is : (t : FlatType) → r ≡ Ok t → (o ≡ some (ty_of t)) × (type_within (ty_of t) ≡ true)
   unfolding type_field
   read_is t e = held_is o (ty_of t) (rw e at read)
 

@@ -1,13 +1,11 @@
 -- What the code's types and class tables stand for. Document 01, Values and types.
-use Rattle.std.specs.Prelude.{◌≡◌, Bool, false, ◌&&◌, List, ℕ, zero, suc, ◌<◌, get_or, leb, eqb}
+use Rattle.std.specs.Prelude.{◌≡◌, Bool, false, ◌&&◌, List, ℕ, zero, suc, ◌<◌, get_or, leb, eqb, Option as Optional, Some, None}
 use Rattle.std.proofs.Math.Option.{Option, none, some}
 use Rattle.std.specs.Prelude.{if◌then◌else◌}
 use Rattle.ocl.specs.Types.{any, boolean, integer, real, class, set, sequence, bag, Letter, collection, exactly, Ty, void, simple, around, Parents, letter_subtype, join}
 use Rattle.types.specs.declared.Base.{Base}
 use Rattle.types.specs.declared.Base.TheVariants as b
 use Rattle.types.specs.declared.FlatType.{FlatType}
-use Rattle.types.specs.declared.Joined.{Joined}
-use Rattle.types.specs.declared.Joined.TheVariants as j
 
 -- ---- the classes: word c of a table is 0, or one more than the parent of class c
 
@@ -87,21 +85,21 @@ level tag (suc k) (suc l) ends more = letter_subtype (letter_of (suc k)) (letter
 -- ---- the common type, code by code
 
 -- the common type, if there is one
-unfoldable pub joined_type : Joined → Option Ty
-joined_type (j.Is t) = some (ty_of t)
-joined_type j.Nothing = none
+unfoldable pub joined_type : Optional FlatType → Option Ty
+joined_type (Some t) = some (ty_of t)
+joined_type None = none
 
 -- what the first d codes say alone
 unfoldable pub type_to : ℕ → FlatType → Ty
 type_to zero t = base_type t.base
 type_to (suc d) t = layer t.outer (base_type t.base) (type_to d (under t))
 
-unfoldable pub joined_to : ℕ → Joined → Option Ty
-joined_to d (j.Is t) = some (type_to d t)
-joined_to d j.Nothing = none
+unfoldable pub joined_to : ℕ → Optional FlatType → Option Ty
+joined_to d (Some t) = some (type_to d t)
+joined_to d None = none
 
 -- r is the common type of f and g to one code more than `inner` is that of what stands under theirs; e is the bases' own
-pub record JoinsOneMore (parent : Parents) (e : Base) (f g : FlatType) (inner r : Joined) : Type 0 where
+pub record JoinsOneMore (parent : Parents) (e : Base) (f g : FlatType) (inner r : Optional FlatType) : Type 0 where
   pub step :
       some (base_type e) ≡ join parent (base_type f.base) (base_type g.base)
       → (d : ℕ) → d < 3

@@ -1,9 +1,7 @@
 -- The parts of a type that typing asks for. Document 01, The forms and their typing.
-use Rattle.std.specs.Prelude.{Bool, true, false, ℕ}
+use Rattle.std.specs.Prelude.{Bool, true, false, ℕ, Option as Optional, Some, None}
 use Rattle.std.proofs.Math.Option.{Option, none, some}
 use Rattle.ocl.specs.Types.{Simple, any, boolean, integer, real, class, set, sequence, bag, Letter, collection, exactly, Ty, void, simple, around}
-use Rattle.types.specs.declared.ClassNumber.{ClassNumber}
-use Rattle.types.specs.declared.ClassNumber.TheVariants as n
 
 -- a letter's code
 unfoldable pub code_of : Letter → ℕ
@@ -47,6 +45,6 @@ is_any (simple (class c)) = false
 is_any (around l t) = false
 
 -- what the code answers for a class
-unfoldable pub class_number : ClassNumber → Option ℕ
-class_number (n.Is c) = some c
-class_number n.Nothing = none
+unfoldable pub class_number : Optional ℕ → Option ℕ
+class_number (Some c) = some c
+class_number None = none

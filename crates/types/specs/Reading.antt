@@ -1,6 +1,6 @@
 -- A spelled type, as the code takes it apart: letters with their brackets, a base, closing brackets. proofs/Spelled.antt: this
 -- is what crates/sheet's `read_type` reads. Any nesting may be spelled; document 01's limits make a type too big.
-use Rattle.std.specs.Prelude.{ℕ, zero, suc, ◌+◌, ◌≤◌, ◌≡◌, Bool, true, false, ◌&&◌, [], ◌∷◌, length, eqb, ltb}
+use Rattle.std.specs.Prelude.{ℕ, zero, suc, ◌+◌, ◌≤◌, ◌≡◌, Bool, true, false, ◌&&◌, [], ◌∷◌, length, eqb, ltb, Option as Optional, Some, None, Result, Ok, Err}
 use Rattle.std.proofs.Math.Option.{Option, none, some}
 use Rattle.laws.specs.Choice.{on_some, map_some}
 use Rattle.std.specs.Prelude.{if◌then◌else◌}
@@ -8,11 +8,10 @@ use Rattle.ocl.specs.Types.{Letter, Ty, void, around, Any, Boolean, Integer, Rea
 use Rattle.sheet.specs.Sizes.{most_classes}
 use Rattle.sheet.specs.Text.{Bytes, byte, Parser, literal, behind, ◌or◌, mapped, number_parser}
 use Rattle.sheet.specs.Limits.{type_within}
-use Rattle.text.specs.declared.numbers.Num.{Num}
-use Rattle.text.specs.declared.numbers.Num.TheVariants as n
-use Rattle.types.specs.declared.GotType.{GotType}
-use Rattle.types.specs.declared.GotType.TheVariants as g
 use Rattle.types.specs.Flat.{letter_of, ty_of}
+use Rattle.memory.specs.declared.refusals.Misread.{Misread}
+use Rattle.memory.specs.declared.refusals.Misread.TheVariants.{Malformed, OverLimit}
+use Rattle.types.specs.declared.FlatType.{FlatType}
 
 -- ---- what a field that should spell a type is: badly spelled, over the limits, or a type
 
@@ -20,10 +19,10 @@ pub data TypeField : Type 0 where
   bad big : TypeField
   is : Ty → TypeField
 
-unfoldable pub type_field : GotType → TypeField
-type_field g.Bad = bad
-type_field g.Big = big
-type_field (g.Is t) = is (ty_of t)
+unfoldable pub type_field : Result FlatType Misread → TypeField
+type_field (Err Malformed) = bad
+type_field (Err OverLimit) = big
+type_field (Ok t) = is (ty_of t)
 
 unfoldable pub held : Option Ty → TypeField
 held none = bad
@@ -103,6 +102,6 @@ lettered_field zero x = bad
 lettered_field (suc k) x = deeper (letter_of (suc k)) x
 
 -- a class by its number, as crates/text reads it
-unfoldable pub class_field : Num → TypeField
-class_field n.Bad = bad
-class_field (n.Is m) = if ltb m most_classes then is (Class m) else big
+unfoldable pub class_field : Optional ℕ → TypeField
+class_field None = bad
+class_field (Some m) = if ltb m most_classes then is (Class m) else big

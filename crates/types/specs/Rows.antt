@@ -1,12 +1,10 @@
 -- The attribute rows as two tables, each row's owner and its name; proofs/RowLaws.antt: a model that reads these tables finds
 -- the same rows. Document 01, The forms and their typing, `attr`.
-use Rattle.std.specs.Prelude.{◌&&◌, List, ◌≡◌, ℕ, zero, suc, ◌≤◌, ◌<◌, get_or, eqb}
+use Rattle.std.specs.Prelude.{◌&&◌, List, ◌≡◌, ℕ, zero, suc, ◌≤◌, ◌<◌, get_or, eqb, Option as Optional, Some, None}
 use Rattle.std.proofs.Math.Option.{Option, none, some}
 use Rattle.laws.specs.Choice.{or_else, on_some}
 use Rattle.std.specs.Prelude.{if◌then◌else◌}
 use Rattle.ocl.specs.Types.{Parents}
-use Rattle.types.specs.declared.RowFound.{RowFound}
-use Rattle.types.specs.declared.RowFound.TheVariants as f
 use Rattle.types.specs.Flat.{parents_in}
 
 -- the row that class c itself declares with the name, among the first n rows
@@ -25,9 +23,9 @@ unfoldable pub row_read_in : List ℕ → List ℕ → List ℕ → ℕ → ℕ 
 row_read_in ps owners names rows c name = nearest_in (parents_in ps) owners names rows name (suc c) c
 
 -- what the code answers for a row
-unfoldable pub found : RowFound → Option ℕ
-found (f.At i) = some i
-found f.Nothing = none
+unfoldable pub found : Optional ℕ → Option ℕ
+found (Some i) = some i
+found None = none
 
 -- the rows from `low` to `high` have another name
 pub record Unnamed (names : List ℕ) (name low high : ℕ) : Type 0 where

@@ -10,15 +10,10 @@ use memory::words::wide;
 pub fn parent(parents: &[u64], c: u64) -> u64
     ensures { result ≡ parent_word parents.now c }
 {
-    let at = wide(c);
-    if parents.len() <= at {
-        return 0;
+    match parents.get(wide(c)) {
+        Some(&q) if q <= c => q,
+        _ => 0,
     }
-    let q = parents[at];
-    if q <= c {
-        return q;
-    }
-    0
 }
 
 // Whether class c is d or below it.
@@ -26,6 +21,7 @@ pub fn class_below(parents: &[u64], c: u64, d: u64) -> bool
     ensures { result ≡ simple_subtype (parents_in parents.now) (class c) (class d) }
 {
     let mut x = c;
+    // up from parent to parent
     while x != d {
         let p = parent(parents, x);
         if p == 0 {
@@ -41,6 +37,7 @@ pub fn common_class(parents: &[u64], c: u8, d: u8) -> Base
     ensures { base_type result ≡ simple (simple_join (parents_in parents.now) (class c) (class d)) }
 {
     let mut x = c;
+    // up from parent to parent
     loop {
         if class_below(parents, d as u64, x as u64) {
             return Base::Class(x);

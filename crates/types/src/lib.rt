@@ -30,32 +30,3 @@ pub struct FlatType {
     pub middle: u8,
     pub inner: u8,
 }
-
-// The common type of two types, if they have one.
-#[derive(Clone, Copy)]
-pub enum Joined {
-    Is(FlatType),
-    Nothing,
-}
-
-// The class that a type is, if it is one.
-#[derive(Clone, Copy)]
-pub enum ClassNumber {
-    Is(u64),
-    Nothing,
-}
-
-// A row's number, if there is one.
-#[derive(Clone, Copy)]
-pub enum RowFound {
-    At(u64),
-    Nothing,
-}
-
-// A field that should spell a type: badly spelled, over document 01's limits, or a type.
-#[derive(Clone, Copy)]
-pub enum GotType {
-    Bad,
-    Big,
-    Is(FlatType),
-}

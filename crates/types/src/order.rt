@@ -5,7 +5,7 @@ ghost use Rattle.ocl.specs.Types.{Parents, letter_subtype, letter_join, subtype 
 ghost use Rattle.types.specs.Flat.{parents_in, base_type, base_tag, base_class, letter_of, ty_of, under, bare, joined_type, JoinsOneMore, level as level_of};
 
 use super::classes::{class_below, common_class};
-use super::{Base, FlatType, Joined, letters};
+use super::{Base, FlatType, letters};
 
 // A number for each case of a base: 0 for Void, 5 for a class.
 pub fn tag(b: Base) -> u64
@@ -26,12 +26,8 @@ pub fn class_in(b: Base) -> u8
     ensures { result ≡ base_class b }
 {
     match b {
-        Base::Void => 0,
-        Base::Bool => 0,
-        Base::Int => 0,
-        Base::Any => 0,
-        Base::Real => 0,
         Base::Class(c) => c,
+        _ => 0,
     }
 }
 
@@ -39,10 +35,7 @@ pub fn class_in(b: Base) -> u8
 fn widens(x: u64, y: u64) -> bool
     ensures { result ≡ (eqb x 2 && eqb y 4) }
 {
-    if x == 2 {
-        return y == 4;
-    }
-    false
+    x == 2 && y == 4
 }
 
 // Whether base a is b or below it.
@@ -51,10 +44,7 @@ fn base_below(parents: &[u64], a: Base, b: Base) -> bool
 {
     let x = tag(a);
     let y = tag(b);
-    if x == 0 {
-        return true;
-    }
-    if y == 3 {
+    if x == 0 || y == 3 {
         return true;
     }
     if x == 5 {
@@ -63,13 +53,7 @@ fn base_below(parents: &[u64], a: Base, b: Base) -> bool
         }
         return false;
     }
-    if widens(x, y) {
-        return true;
-    }
-    if x == y {
-        return true;
-    }
-    false
+    widens(x, y) || x == y
 }
 
 // Two bases always have a common type.
@@ -106,10 +90,7 @@ fn base_join(parents: &[u64], a: Base, b: Base) -> Base
 fn letter_below(k: u8, l: u8) -> bool
     ensures { result ≡ letter_subtype (letter_of k) (letter_of l) }
 {
-    if l < letters::SET {
-        return true;
-    }
-    if letters::BAG < l {
+    if l < letters::SET || letters::BAG < l {
         return true;
     }
     k == l
@@ -120,10 +101,7 @@ fn letter_join(k: u8, l: u8) -> u8
     requires { 0 < k }
     ensures { (0 < result) × (letter_of result ≡ letter_join (letter_of k) (letter_of l)) }
 {
-    if k == l {
-        return k;
-    }
-    letters::COLLECTION
+    if k == l { k } else { letters::COLLECTION }
 }
 
 // One level of the subtype test: codes k and l, the first type's base by its tag.
@@ -139,10 +117,7 @@ fn level(tag: u64, k: u8, l: u8, ends: bool, more: bool) -> bool
     if l == 0 {
         return false; // a collection is below no base, not even Any
     }
-    if letter_below(k, l) {
-        return more;
-    }
-    false
+    letter_below(k, l) && more
 }
 
 // Whether a is below b.
@@ -162,12 +137,11 @@ pub fn subtype(parents: &[u64], a: FlatType, b: FlatType) -> bool
 pub fn under_outer(t: FlatType) -> FlatType
     ensures { result ≡ under t }
 {
-    let b = t.base;
     FlatType {
-        base: b,
         outer: t.middle,
         middle: t.inner,
         inner: 0,
+        ..t
     }
 }
 
@@ -184,43 +158,41 @@ pub fn no_letter(b: Base) -> FlatType
 }
 
 // One level of the common type: e is that of the bases, `inner` that of what stands under a's and b's outermost codes.
-fn join_level(e: Base, a: FlatType, b: FlatType, inner: Joined) -> Joined
+fn join_level(e: Base, a: FlatType, b: FlatType, inner: Option<FlatType>) -> Option<FlatType>
     ensures { (parent : Parents) → JoinsOneMore parent e a b inner result }
 {
     let k = a.outer;
     let l = b.outer;
     if k == 0 {
         if l == 0 {
-            return Joined::Is(no_letter(e));
+            return Some(no_letter(e));
         }
         let p = a.base;
         if tag(p) == 0 {
-            return Joined::Is(b);
+            return Some(b);
         }
-        return Joined::Nothing;
+        return None;
     }
     if l == 0 {
         let q = b.base;
         if tag(q) == 0 {
-            return Joined::Is(a);
+            return Some(a);
         }
-        return Joined::Nothing;
+        return None;
     }
-    let Joined::Is(t) = inner else {
+    let Some(t) = inner else {
         return inner;
     };
-    let m = letter_join(k, l);
-    let c = t.base;
-    Joined::Is(FlatType {
-        base: c,
-        outer: m,
+    Some(FlatType {
+        outer: letter_join(k, l),
         middle: t.outer,
         inner: t.middle,
+        ..t
     })
 }
 
 // The common type of a and b.
-pub fn join(parents: &[u64], a: FlatType, b: FlatType) -> Joined
+pub fn join(parents: &[u64], a: FlatType, b: FlatType) -> Option<FlatType>
     ensures { joined_type result ≡ join_of (parents_in parents.now) (ty_of a) (ty_of b) }
 {
     let p = a.base;
@@ -228,12 +200,7 @@ pub fn join(parents: &[u64], a: FlatType, b: FlatType) -> Joined
     let e = base_join(parents, p, q);
     let a2 = under_outer(a);
     let b2 = under_outer(b);
-    let third = join_level(
-        e,
-        under_outer(a2),
-        under_outer(b2),
-        Joined::Is(no_letter(e)),
-    );
+    let third = join_level(e, under_outer(a2), under_outer(b2), Some(no_letter(e)));
     let second = join_level(e, a2, b2, third);
     join_level(e, a, b, second)
 }

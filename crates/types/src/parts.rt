@@ -4,8 +4,8 @@ ghost use Rattle.ocl.specs.Types.{around, exactly, set, Class, depth as depth_of
 ghost use Rattle.types.specs.Flat.{base_type, letter_of, ty_of};
 ghost use Rattle.types.specs.Parts.{outer_code, member_type, class_of, class_number, is_any as isAnyType};
 
-use super::order::{no_letter, tag, under_outer};
-use super::{Base, ClassNumber, FlatType, letters};
+use super::order::{no_letter, under_outer};
+use super::{Base, FlatType, letters};
 
 // How many letters stand around the base.
 pub fn depth(t: FlatType) -> u64
@@ -28,19 +28,17 @@ pub fn outer_code(t: FlatType) -> u8
     ensures { result ≡ outer_code (ty_of t) }
 {
     if letters::BAG < t.outer {
-        return letters::COLLECTION;
+        letters::COLLECTION
+    } else {
+        t.outer
     }
-    t.outer
 }
 
 // The member type of a collection; any other type is returned as it is.
 pub fn member_type(t: FlatType) -> FlatType
     ensures { ty_of result ≡ member_type (ty_of t) }
 {
-    if t.outer == 0 {
-        return t;
-    }
-    under_outer(t)
+    if t.outer == 0 { t } else { under_outer(t) }
 }
 
 // A letter around a type that has room for it.
@@ -49,12 +47,11 @@ pub fn wrap(code: u8, t: FlatType) -> FlatType
     requires t_bound { depth_of (ty_of t) ≤ 2 }
     ensures { ty_of result ≡ around (letter_of code) (ty_of t) }
 {
-    let b = t.base;
     FlatType {
-        base: b,
         outer: code,
         middle: t.outer,
         inner: t.middle,
+        ..t
     }
 }
 
@@ -70,37 +67,26 @@ pub fn set_of_class(c: u8) -> FlatType
     ensures { ty_of result ≡ around (exactly set) (Class c) }
 {
     FlatType {
-        base: Base::Class(c),
         outer: letters::SET,
-        middle: 0,
-        inner: 0,
+        ..no_letter(Base::Class(c))
     }
 }
 
 // The class, if the type is one. Void is none, and neither is a collection of a class.
-pub fn is_class(t: FlatType) -> ClassNumber
+pub fn is_class(t: FlatType) -> Option<u64>
     ensures { class_number result ≡ class_of (ty_of t) }
 {
     if t.outer != 0 {
-        return ClassNumber::Nothing;
+        return None;
     }
-    let b = t.base;
-    match b {
-        Base::Void => ClassNumber::Nothing,
-        Base::Bool => ClassNumber::Nothing,
-        Base::Int => ClassNumber::Nothing,
-        Base::Any => ClassNumber::Nothing,
-        Base::Real => ClassNumber::Nothing,
-        Base::Class(c) => ClassNumber::Is(c as u64),
+    match t.base {
+        Base::Class(c) => Some(u64::from(c)),
+        _ => None,
     }
 }
 
 pub fn is_any(t: FlatType) -> bool
     ensures { result ≡ isAnyType (ty_of t) }
 {
-    if t.outer != 0 {
-        return false;
-    }
-    let b = t.base;
-    tag(b) == 3
+    t.outer == 0 && matches!(t.base, Base::Any)
 }

@@ -8,109 +8,85 @@ ghost use Rattle.types.specs.Flat.{ty_of};
 ghost use Rattle.types.specs.Reading.{type_field, held, base_before, number_before, byte_code, Opens, lettered_field, class_field, is, closes as closesBy, spells as spellsBy};
 
 use super::parts::{depth, plain, wrap};
-use super::{Base, FlatType, GotType, letters};
-use text::numbers::{Num, number};
-use text::words::same;
+use super::{Base, FlatType, letters};
+use memory::refusals::Misread;
+use text::numbers::number;
 
 // How many opening brackets stand in front, each behind another byte.
 fn opens(s: &[u8]) -> usize
     ensures { Opens s.now result }
 {
-    let mut d: usize = 0;
-    let mut i: usize = 1;
-    while i < s.len() {
-        if s[i] != b'(' {
+    for d in 0..s.len() / 2 {
+        if s[d + d + 1] != b'(' {
             return d;
         }
-        i += 2;
-        d += 1;
     }
-    d
+    s.len() / 2
 }
 
 // Whether s is d closing brackets.
 fn closes(s: &[u8], d: usize) -> bool
     ensures { result ≡ closesBy d s.now }
 {
-    if s.len() != d {
-        return false;
-    }
-    let mut i: usize = 0;
-    while i < s.len() {
-        if s[i] != b')' {
-            return false;
-        }
-        i += 1;
-    }
-    true
+    s.len() == d && s.iter().all(|&b| b == b')')
 }
 
 // Whether s is the word w and d closing brackets.
 fn spells(s: &[u8], w: &[u8], d: usize) -> bool
     ensures { result ≡ spellsBy w.now d s.now }
 {
-    let n = w.len();
-    if s.len() < n {
-        return false;
-    }
-    if same(w, &s[..n]) {
-        return closes(&s[n..], d);
-    }
-    false
+    s.starts_with(w) && closes(&s[w.len()..], d)
 }
 
 // The class that a number spells.
-pub fn class_of(n: Num) -> GotType
+pub fn class_of(n: Option<u64>) -> Result<FlatType, Misread>
     ensures { type_field result ≡ class_field n }
 {
     match n {
-        Num::Bad => GotType::Bad,
-        Num::Is(c) => if c < memory::MOST_CLASSES {
-            GotType::Is(plain(Base::Class(c as u8)))
+        None => Err(Misread::Malformed),
+        Some(c) => if c < memory::MOST_CLASSES {
+            Ok(plain(Base::Class(c as u8)))
         } else {
-            GotType::Big
+            Err(Misread::OverLimit)
         },
     }
 }
 
 // What a class's number and d closing brackets spell.
-fn class_before(s: &[u8], d: usize) -> GotType
+fn class_before(s: &[u8], d: usize) -> Result<FlatType, Misread>
     ensures { type_field result ≡ held (map_some Class (number_before d s.now)) }
 {
     if s.len() < d {
-        return GotType::Bad;
+        return Err(Misread::Malformed);
     }
     let e = s.len() - d;
     if closes(&s[e..], d) {
         return class_of(number(&s[..e]));
     }
-    GotType::Bad
+    Err(Misread::Malformed)
 }
 
 // What a base and d closing brackets spell.
-fn base_before(s: &[u8], d: usize) -> GotType
+fn base_before(s: &[u8], d: usize) -> Result<FlatType, Misread>
     ensures { type_field result ≡ held (base_before d s.now) }
 {
     if spells(s, b"Void", d) {
-        return GotType::Is(plain(Base::Void));
+        return Ok(plain(Base::Void));
     }
     if spells(s, b"Bool", d) {
-        return GotType::Is(plain(Base::Bool));
+        return Ok(plain(Base::Bool));
     }
     if spells(s, b"Int", d) {
-        return GotType::Is(plain(Base::Int));
+        return Ok(plain(Base::Int));
     }
     if spells(s, b"Real", d) {
-        return GotType::Is(plain(Base::Real));
+        return Ok(plain(Base::Real));
     }
     if spells(s, b"Any", d) {
-        return GotType::Is(plain(Base::Any));
+        return Ok(plain(Base::Any));
     }
-    if s.len() == 0 {
-        return GotType::Bad;
-    }
-    if s[0] != b'#' {
-        return GotType::Bad;
+    if s.is_empty() || s[0] != b'#' {
+        return Err(Misread::Malformed);
     }
     class_before(&s[1..], d)
 }
@@ -129,43 +105,35 @@ fn letter_code(b: u8) -> u8
 }
 
 // A letter around a type: a fourth is one too many.
-fn deeper(k: u8, t: FlatType) -> GotType
+fn deeper(k: u8, t: FlatType) -> Result<FlatType, Misread>
     requires { 0 < k }
     ensures { type_field result ≡ lettered_field k (is (ty_of t)) }
 {
     if depth(t) < 3 {
-        return GotType::Is(wrap(k, t));
+        return Ok(wrap(k, t));
     }
-    GotType::Big
+    Err(Misread::OverLimit)
 }
 
 // A letter's byte around what was read.
-pub fn lettered(b: u8, g: GotType) -> GotType
+pub fn lettered(b: u8, g: Result<FlatType, Misread>) -> Result<FlatType, Misread>
     ensures { type_field result ≡ lettered_field (byte_code b) (type_field g) }
 {
     let k = letter_code(b);
     if k == 0 {
-        return GotType::Bad;
+        return Err(Misread::Malformed);
     }
-    match g {
-        GotType::Bad => GotType::Bad,
-        GotType::Big => GotType::Big,
-        GotType::Is(t) => deeper(k, t),
-    }
+    deeper(k, g?)
 }
 
 // The type that a field spells. The letters are taken from the inside out.
-pub fn read_type(f: &[u8]) -> GotType
+pub fn read_type(f: &[u8]) -> Result<FlatType, Misread>
     ensures { type_field result ≡ held (read_type f.now) }
 {
     let d = opens(f);
-    let m = d + d;
-    let mut g = base_before(&f[m..], d);
-    let mut j = d;
-    while 0 < j {
-        j -= 1;
-        let i = j + j;
-        g = lettered(f[i], g);
+    let mut g = base_before(&f[d + d..], d);
+    for j in (0..d).rev() {
+        g = lettered(f[j + j], g);
     }
     g
 }

@@ -2,7 +2,6 @@
 ghost use Rattle.std.specs.Prelude.{◌≡◌, ◌≤◌, length};
 ghost use Rattle.types.specs.Rows.{declared_in, row_read_in, found, Unnamed};
 
-use super::RowFound;
 use super::classes::parent;
 use memory::words::long;
 
@@ -11,14 +10,10 @@ fn named_end(names: &[u64], rows: usize, name: u64) -> usize
     requires { rows ≤ length names.now }
     ensures { (result ≤ rows) × Unnamed names.now name result rows }
 {
-    let mut i = rows;
-    while 0 < i {
-        if names[i - 1] == name {
-            return i;
-        }
-        i -= 1;
-    }
-    0
+    names[..rows]
+        .iter()
+        .rposition(|&n| n == name)
+        .map_or(0, |i| i + 1)
 }
 
 // The first row before `end` that has the name; `end` where none has.
@@ -26,34 +21,30 @@ fn named_start(names: &[u64], end: usize, name: u64) -> usize
     requires { end ≤ length names.now }
     ensures { Unnamed names.now name 0 result }
 {
-    let mut i = 0;
-    while i < end {
-        if names[i] == name {
-            return i;
-        }
-        i += 1;
-    }
-    i
+    names[..end].iter().position(|&n| n == name).unwrap_or(end)
 }
 
 // The row that class c itself declares with the name, which no row before `start` has. A class has a name only once, so the
 // order does not matter.
-fn declared(owners: &[u64], names: &[u64], start: usize, end: usize, c: u64, name: u64) -> RowFound
+fn declared(
+    owners: &[u64],
+    names: &[u64],
+    start: usize,
+    end: usize,
+    c: u64,
+    name: u64,
+) -> Option<u64>
     requires end_in_bounds { end ≤ length owners.now }
     requires end_in_bounds_2 { end ≤ length names.now }
     requires unnamed { Unnamed names.now name 0 start }
     ensures { found result ≡ declared_in owners.now names.now c name end }
 {
-    let mut i = end;
-    while start < i {
-        i -= 1;
-        if owners[i] == c {
-            if names[i] == name {
-                return RowFound::At(long(i));
-            }
+    for i in (start..end).rev() {
+        if owners[i] == c && names[i] == name {
+            return Some(long(i));
         }
     }
-    RowFound::Nothing
+    None
 }
 
 // The nearest declaration from class c upward, among the rows before `end`.
@@ -65,21 +56,22 @@ fn nearest(
     end: usize,
     c: u64,
     name: u64,
-) -> RowFound
+) -> Option<u64>
     requires end_in_bounds { end ≤ length owners.now }
     requires end_in_bounds_2 { end ≤ length names.now }
     requires unnamed { Unnamed names.now name 0 start }
     ensures { found result ≡ row_read_in parents.now owners.now names.now end c name }
 {
     let mut x = c;
+    // up from parent to parent
     loop {
         let f = declared(owners, names, start, end, x, name);
-        let RowFound::Nothing = f else {
+        let None = f else {
             return f;
         };
         let p = parent(parents, x);
         if p == 0 {
-            return RowFound::Nothing;
+            return None;
         }
         x = p - 1;
     }
@@ -94,7 +86,7 @@ pub fn row_read(
     rows: usize,
     c: u64,
     name: u64,
-) -> RowFound
+) -> Option<u64>
     requires rows_in_bounds { rows ≤ length owners.now }
     requires rows_in_bounds_2 { rows ≤ length names.now }
     ensures { found result ≡ row_read_in parents.now owners.now names.now rows c name }

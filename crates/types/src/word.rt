@@ -13,10 +13,7 @@ const COLLECTION: u64 = letters::COLLECTION as u64;
 fn three_bits(k: u8) -> u64
     ensures { ThreeBits k result }
 {
-    if k < 8 {
-        return k as u64;
-    }
-    COLLECTION
+    if k < 8 { u64::from(k) } else { COLLECTION }
 }
 
 // The type as a word.

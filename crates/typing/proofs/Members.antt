@@ -15,13 +15,13 @@ use Rattle.types.specs.declared.FlatType.{FlatType}
 use Rattle.types.specs.Flat.{parents_in, letter_of, ty_of}
 use Rattle.types.proofs.Parents.{parents_small}
 use Rattle.nodes.specs.Nodes.{word, kind_of, operands_in}
-use Rattle.judgements.specs.declared.Reply.{Reply}
-use Rattle.judgements.specs.declared.Reply.TheVariants as reply
 use Rattle.judgements.specs.Replies.{meaning, join_more, Tells}
 use Rattle.typing.specs.Tables.{operand_at, members_at, assemble_at}
 use Rattle.judgements.proofs.Composition.{early, after, done, then_then}
 use Rattle.typing.proofs.NodeTypings.{undef_done}
 use Rattle.judgements.proofs.Joins.{void_first, void_last, more_two}
+use Rattle.std.specs.Prelude.{Result, Ok, Err}
+use Rattle.memory.specs.declared.refusals.Refused.{Refused}
 
 -- ---- codes and letters
 
@@ -49,7 +49,7 @@ members_left m t n k c d o Γ = and_then (members_at t n c d m Γ) (λ u. letter
 
 -- i of the c members are typed
 pub record Left (m : Schema) (t : List ℕ) (n k c i : ℕ) (o : Option Ty) (Γ : Env Ty) (before now : List ℕ) : Type 0 where
-  pub goes : {after : List ℕ} {r : Reply} → Tells (members_left m t n k (c - i) (i + 1) o Γ) now after r → Tells (assemble_at t n k m Γ) before after r
+  pub goes : {after : List ℕ} {r : Result FlatType Refused} → Tells (members_left m t n k (c - i) (i + 1) o Γ) now after r → Tells (assemble_at t n k m Γ) before after r
 
 -- ---- the definition, member by member
 
@@ -90,7 +90,7 @@ module _ (m : Schema) (t : List ℕ) (n k : ℕ) (Γ : Env Ty) (c : ℕ) where
       then_then (others i) _ _
       ∙ ap (and_then (others i)) (fun_ext (λ u. common_then n k (join m.parent s u) (join_more m.parent o) ∙ ap (lettered n k) (two_more m ps q o s u)))
 
-  pub assemble_over : {B : List ℕ} {r : FlatType} → c ≡ word t n 5 → 4 < c → ty_of r ≡ void → Tells (assemble_at t n k m Γ) B B (reply.Is r)
+  pub assemble_over : {B : List ℕ} {r : FlatType} → c ≡ word t n 5 → 4 < c → ty_of r ≡ void → Tells (assemble_at t n k m Γ) B B (Ok r)
   unfolding assemble_at
   assemble_over e h v = rw (← e, lt-ltb 4 c h) (undef_done n Γ v)
 
@@ -107,13 +107,13 @@ module _ (m : Schema) (t : List ℕ) (n k : ℕ) (Γ : Env Ty) (c : ℕ) where
       record { goes = λ d. rw (← e, le-ltb 4 c h) (rw (z, v, all_left l g) at d) }
 
   module _ {B now : List ℕ} (i : ℕ) (o : Option Ty) (left : Left m t n k c i o Γ B now) where
-    pub left_refused : {next : List ℕ} {r : Reply} {a p : ℕ} → i < c → Tells (operand_at t n (i + 1) m Γ) now next r → r ≡ reply.No a p → Tells (assemble_at t n k m Γ) B next r
+    pub left_refused : {next : List ℕ} {r : Result FlatType Refused} {a : Refused} → i < c → Tells (operand_at t n (i + 1) m Γ) now next r → r ≡ Err a → Tells (assemble_at t n k m Γ) B next (Err a)
     left_refused h d q = left.goes (rw (left_by i o h) (early _ d q))
 
-    pub left_next : {next : List ℕ} {r : Reply} {s : FlatType} {w : Option Ty} (ps : List ℕ) → m.parent ≡ parents_in ps → i < c → Tells (operand_at t n (i + 1) m Γ) now next r → r ≡ reply.Is s
+    pub left_next : {next : List ℕ} {r : Result FlatType Refused} {s : FlatType} {w : Option Ty} (ps : List ℕ) → m.parent ≡ parents_in ps → i < c → Tells (operand_at t n (i + 1) m Γ) now next r → r ≡ Ok s
         → w ≡ join_more (parents_in ps) o (ty_of s) → Left m t n k c (i + 1) w Γ B next
     left_next {s = s} {w = w} ps e h d q v = record { goes = λ y. left.goes (rw (left_by i o h) (after _ d q (rw (others_by ps e i o (ty_of s)) (rw (v, ← e) at y)))) }
 
-    pub left_done : {r : Reply} → c ≤ i → meaning r ≡ common n o (wrap n (letter_of (k - 25))) → Tells (assemble_at t n k m Γ) B now r
+    pub left_done : {r : Result FlatType Refused} → c ≤ i → meaning r ≡ common n o (wrap n (letter_of (k - 25))) → Tells (assemble_at t n k m Γ) B now r
     unfolding members_left lettered and_then then_for
     left_done h v = left.goes (rw (members_none m t n (c - i) (i + 1) Γ (omega arith), void_last m.parent o) (done v))

@@ -8,7 +8,7 @@ use Prim.Native.Nat.{ℕ, ◌<◌, ◌≤◌}
 use native.Mathlib.Omega.{arith}
 use lib.Dec.{eqb, ltb}
 use borrow.Author.Tests.{ltb-true, ltb-false, eqb-true, eqb-false, ne_eqb}
-use Rattle.std.specs.Prelude.{if◌then◌else◌}
+use Rattle.std.specs.Prelude.{if◌then◌else◌, Result, Ok, Err}
 use Rattle.ocl.specs.Types.{Letter, Ty, void, Parents, subtype}
 use Rattle.ocl.specs.Environment.{Env, extend}
 use Rattle.ocl.specs.Forms.{undef}
@@ -21,12 +21,13 @@ use Rattle.types.specs.Word.{type_in}
 use Rattle.types.proofs.Members.{no_collection, is_collection}
 use Rattle.nodes.specs.Nodes.{word, variable, leaf_of, access_of}
 use Rattle.nodes.proofs.Typing.{operand_typing, leaf_typing_lem, unary_typing_lem, binary_typing_lem, connective_typing_lem, quantified_typing_lem, assemble_typing_lem, is_undef_typing_lem, conditional_typing_lem, let_typing_lem, attribute_typing_lem, iterate_typing_lem, call_typing_lem, over_typing, none_typing, operand_typing_lem, late_typing}
-use Rattle.judgements.specs.declared.Reply.{Reply}
-use Rattle.judgements.specs.declared.Reply.TheVariants as reply
 use Rattle.judgements.specs.Replies.{Tells}
 use Rattle.judgements.specs.Single.{single_type}
 use Rattle.typing.specs.Tables.{node_at, operand_at, members_at, single_at, binary_at, connective_at, conditional_at, let_at, quantified_at, iterate_at, body_at, assemble_at}
 use Rattle.judgements.proofs.Composition.{done}
+use Rattle.memory.specs.Refusals.{at}
+use Rattle.memory.specs.declared.refusals.Refusal.TheVariants.{WrongPiece}
+use Rattle.memory.specs.declared.refusals.Refused.{Refused}
 
 -- ---- a node by its code
 
@@ -120,26 +121,26 @@ module _ (m : Schema) (t : List ℕ) (n k a : ℕ) (e : a ≡ word t n k) where
   late_node h = late_typing m t n k a e h
 
 -- what no accepted sheet has counts as `undef`, of type Void
-pub undef_done : {B : List ℕ} {r : FlatType} (n : ℕ) (Γ : Env Ty) → ty_of r ≡ void → Tells (leaf_typing n undef Γ) B B (reply.Is r)
+pub undef_done : {B : List ℕ} {r : FlatType} (n : ℕ) (Γ : Env Ty) → ty_of r ≡ void → Tells (leaf_typing n undef Γ) B B (Ok r)
 unfolding leaf_typing leaf_type
 undef_done n Γ h = done (ap typed h)
 
 -- ---- a body, in the environment that the code made for it
 
-pub in_env : {B A : List ℕ} {r : Reply} (t : List ℕ) (n k : ℕ) (m : Schema) (Γ Δ : Env Ty) {i j : ℕ} {x y : Ty} → Δ ≡ extend Γ i x → i ≡ j → x ≡ y
+pub in_env : {B A : List ℕ} {r : Result FlatType Refused} (t : List ℕ) (n k : ℕ) (m : Schema) (Γ Δ : Env Ty) {i j : ℕ} {x y : Ty} → Δ ≡ extend Γ i x → i ≡ j → x ≡ y
     → Tells (operand_at t n k m Δ) B A r → Tells (operand_at t n k m (extend Γ j y)) B A r
 in_env t n k m Γ Δ h p q d = rw (h, p, q) at d
 
 -- ---- a source that is a collection, or is none
 
 module _ {B : List ℕ} (k : Letter → Ty → Typed) (t : Ty) {c : ℕ} (h : c ≡ outer_code t) where
-  pub no_source : (n : ℕ) → c ≡ 0 → Tells (on_collection t (pure (refused 11 n)) k) B B (reply.No 11 n)
+  pub no_source : (n : ℕ) → c ≡ 0 → Tells (on_collection t (pure (refused 11 n)) k) B B (Err (at WrongPiece n))
   no_source n z = rw (no_collection (pure (refused 11 n)) k t (sym h ∙ z)) (done refl)
 
-  pub on_source : {A : List ℕ} {r : Reply} (other : Typed) → (c ≡ 0 → ⊥) → Tells (k (letter_of (outer_code t)) (member_type t)) B A r → Tells (on_collection t other k) B A r
+  pub on_source : {A : List ℕ} {r : Result FlatType Refused} (other : Typed) → (c ≡ 0 → ⊥) → Tells (k (letter_of (outer_code t)) (member_type t)) B A r → Tells (on_collection t other k) B A r
   on_source other z d = rw (is_collection other k t (λ q. z (h ∙ q))) d
 
-if_yes : {B A : List ℕ} {r : Reply} {x : Typed} (y : Typed) (b : Bool) → true ≡ b → Tells x B A r → Tells (if b then x else y) B A r
+if_yes : {B A : List ℕ} {r : Result FlatType Refused} {x : Typed} (y : Typed) (b : Bool) → true ≡ b → Tells x B A r → Tells (if b then x else y) B A r
 if_yes y b h d = rw (← h) d
 
 -- ---- `iter`, once source and start are typed: their checks, then the body
@@ -148,21 +149,21 @@ unfoldable pub iter_rest : Schema → List ℕ → ℕ → Env Ty → Ty → Ty 
 iter_rest m t n Γ c e = on_collection c (pure (refused 11 n)) (λ l x.
     if subtype m.parent e (type_in (word t n 6)) then body_at t n (type_in (word t n 6)) m (extend Γ (variable (word t n 4)) x) else pure (refused 11 n))
 
-pub iter_rest_lem : {B A : List ℕ} {r : Reply} (m : Schema) (t : List ℕ) (n : ℕ) (Γ : Env Ty)
+pub iter_rest_lem : {B A : List ℕ} {r : Result FlatType Refused} (m : Schema) (t : List ℕ) (n : ℕ) (Γ : Env Ty)
     → Tells (and_then (operand_at t n 1 m Γ) (λ c. and_then (operand_at t n 2 m Γ) (iter_rest m t n Γ c))) B A r → Tells (iterate_at t n m Γ) B A r
 unfolding iterate_typing iter_rest body_at
 iter_rest_lem m t n Γ d = d
 
 module _ (m : Schema) (ps : List ℕ) (q : m.parent ≡ parents_in ps) (t : List ℕ) (n : ℕ) (Γ : Env Ty) (s e : Ty) {c : ℕ} (h : c ≡ outer_code s) where
-  pub iter_source : {B : List ℕ} → c ≡ 0 → Tells (iter_rest m t n Γ s e) B B (reply.No 11 n)
+  pub iter_source : {B : List ℕ} → c ≡ 0 → Tells (iter_rest m t n Γ s e) B B (Err (at WrongPiece n))
   unfolding iter_rest
   iter_source z = no_source _ s h n z
 
-  pub iter_start : {B : List ℕ} {w : Ty} → (c ≡ 0 → ⊥) → w ≡ type_in (word t n 6) → false ≡ subtype (parents_in ps) e w → Tells (iter_rest m t n Γ s e) B B (reply.No 11 n)
+  pub iter_start : {B : List ℕ} {w : Ty} → (c ≡ 0 → ⊥) → w ≡ type_in (word t n 6) → false ≡ subtype (parents_in ps) e w → Tells (iter_rest m t n Γ s e) B B (Err (at WrongPiece n))
   unfolding iter_rest
   iter_start z v p = on_source _ s h _ z (rw (q, ← v, ← p) (done refl))
 
-  pub iter_body : {B A : List ℕ} {r : Reply} {Δ : Env Ty} {w x : Ty} {i : ℕ} → (c ≡ 0 → ⊥) → w ≡ type_in (word t n 6) → true ≡ subtype (parents_in ps) e w → x ≡ member_type s → i ≡ variable (word t n 4)
+  pub iter_body : {B A : List ℕ} {r : Result FlatType Refused} {Δ : Env Ty} {w x : Ty} {i : ℕ} → (c ≡ 0 → ⊥) → w ≡ type_in (word t n 6) → true ≡ subtype (parents_in ps) e w → x ≡ member_type s → i ≡ variable (word t n 4)
       → Δ ≡ extend Γ i x → Tells (body_at t n w m Δ) B A r → Tells (iter_rest m t n Γ s e) B A r
   unfolding iter_rest
   iter_body z v p y o g d =

@@ -1,6 +1,6 @@
 -- What the contracts of the recursion say: for every model that the lent words hold, the answer and the marks are those of the
 -- definition in crates/ocl.
-use Rattle.std.specs.Prelude.{◌≡◌, List, ℕ, ◌<◌, ◌≤◌, ltb}
+use Rattle.std.specs.Prelude.{◌≡◌, List, ℕ, ◌<◌, ◌≤◌, ltb, Result, Ok, Err}
 use Rattle.std.specs.Prelude.{if◌then◌else◌}
 use Rattle.memory.specs.Map as memory
 use Rattle.ocl.specs.Types.{Ty}
@@ -13,11 +13,10 @@ use Rattle.types.specs.Flat.{ty_of}
 use Rattle.types.specs.Word.{type_in}
 use Rattle.nodes.specs.Nodes.{word, variable, binary_of, kind_of, operands_in, trees_below, tree_at}
 use Rattle.judgements.specs.declared.TypeEnv.{TypeEnv}
-use Rattle.judgements.specs.declared.Reply.{Reply}
-use Rattle.typing.specs.declared.PairReply.{PairReply}
-use Rattle.typing.specs.declared.PairReply.TheVariants as two
 use Rattle.judgements.specs.Replies.{env_of, Tells, ReadsRows}
 use Rattle.judgements.specs.Single.{single_type}
+use Rattle.memory.specs.declared.refusals.Refused.{Refused}
+use Rattle.types.specs.declared.FlatType.{FlatType}
 
 -- node n and so many rows are within what is lent
 pub record NodeRoom (n rows tables nodes marks : ℕ) : Type 0 where
@@ -28,15 +27,15 @@ pub record NodeRoom (n rows tables nodes marks : ℕ) : Type 0 where
   pub all_marks : most_nodes ≤ marks
 
 -- f and then g: two types, with which whatever follows them goes on; or the first refusal, which ends it
-pub record TellsTwo (f g : Typed) (before after : List ℕ) (r : PairReply) : Type 0 where
-  pub ends : {x : Reply} → r ≡ two.Refused x → (k : Ty → Ty → Typed) → Tells (and_then f (λ t. and_then g (k t))) before after x
-  pub goes : {t u : _} → r ≡ two.Are t u → (k : Ty → Ty → Typed) {last : List ℕ} {x : Reply}
+pub record TellsTwo (f g : Typed) (before after : List ℕ) (r : Result (FlatType × FlatType) Refused) : Type 0 where
+  pub ends : {x : Refused} → r ≡ Err x → (k : Ty → Ty → Typed) → Tells (and_then f (λ t. and_then g (k t))) before after (Err x)
+  pub goes : {t u : _} → r ≡ Ok (t, u) → (k : Ty → Ty → Typed) {last : List ℕ} {x : Result FlatType Refused}
       → Tells (k (ty_of t) (ty_of u)) after last x → Tells (and_then f (λ t. and_then g (k t))) before last x
 
-abbrev pub Types : List ℕ → List ℕ → ℕ → (Schema → Typing) → TypeEnv → List ℕ → List ℕ → Reply → Type 0
+abbrev pub Types : List ℕ → List ℕ → ℕ → (Schema → Typing) → TypeEnv → List ℕ → List ℕ → Result FlatType Refused → Type 0
 Types parents tables rows f env before after r = (m : Schema) → ReadsRows parents tables rows m → Tells (f m (env_of env)) before after r
 
-abbrev pub TypesTwo : List ℕ → List ℕ → ℕ → (Schema → Typing) → (Schema → Typing) → TypeEnv → List ℕ → List ℕ → PairReply → Type 0
+abbrev pub TypesTwo : List ℕ → List ℕ → ℕ → (Schema → Typing) → (Schema → Typing) → TypeEnv → List ℕ → List ℕ → Result (FlatType × FlatType) Refused → Type 0
 TypesTwo parents tables rows f g env before after r =
     (m : Schema) → ReadsRows parents tables rows m → TellsTwo (f m (env_of env)) (g m (env_of env)) before after r
 

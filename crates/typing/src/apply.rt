@@ -4,17 +4,17 @@ ghost use Rattle.std.specs.Prelude.{◌<◌, ◌≤◌, length};
 ghost use Rattle.memory.specs.Codes as code;
 ghost use Rattle.typing.specs.Tables.{NodeRoom, Types, single_at, binary_at, connective_at, conditional_at, assemble_at};
 
-use super::PairReply;
 use super::walk::{operand, pair};
+use judgements::TypeEnv;
 use judgements::binary::binary_type;
 use judgements::forms::{around_common, both_below, conditional_type, join_more};
 use judgements::single::single_type;
-use judgements::{Reply, TypeEnv};
 use memory::codes;
+use memory::refusals::Refused;
 use memory::words::wide;
 use nodes::node_word;
 use types::parts::plain;
-use types::{Base, Joined, letters};
+use types::{Base, FlatType, letters};
 
 // A form with a single operand.
 #[cycle(binary_coll_conditional_connective_single_body_iterate_let_in_quantified_node_operand_pair)]
@@ -27,14 +27,11 @@ pub fn single(
     form: u64,
     env: TypeEnv,
     marks: &mut [u64],
-) -> Reply
+) -> Result<FlatType, Refused>
     requires { NodeRoom n rows (length tables.now) (length nodes.now) (length marks.old) }
     ensures { Types parents.now tables.now rows (single_at nodes.now n form) env marks.old marks.new result }
 {
-    let first = operand(nodes, parents, tables, rows, n, 1, env, marks);
-    let Reply::Is(t) = first else {
-        return first;
-    };
+    let t = operand(nodes, parents, tables, rows, n, 1, env, marks)?;
     single_type(nodes, parents, tables, rows, n, form, t, marks)
 }
 
@@ -49,16 +46,13 @@ pub fn binary(
     form: u64,
     env: TypeEnv,
     marks: &mut [u64],
-) -> Reply
+) -> Result<FlatType, Refused>
     requires equal_le_form { code.equal ≤ form }
     requires node_room { NodeRoom n rows (length tables.now) (length nodes.now) (length marks.old) }
     ensures { Types parents.now tables.now rows (binary_at nodes.now n form) env marks.old marks.new result }
 {
-    let both = pair(nodes, parents, tables, rows, n, env, marks);
-    match both {
-        PairReply::Are(t, u) => binary_type(parents, form, n, t, u, marks),
-        PairReply::Refused(r) => r,
-    }
+    let (t, u) = pair(nodes, parents, tables, rows, n, env, marks)?;
+    binary_type(parents, form, n, t, u, marks)
 }
 
 // `and`, `or`: both below Bool.
@@ -71,16 +65,13 @@ pub fn connective(
     n: usize,
     env: TypeEnv,
     marks: &mut [u64],
-) -> Reply
+) -> Result<FlatType, Refused>
     requires { NodeRoom n rows (length tables.now) (length nodes.now) (length marks.old) }
     ensures { Types parents.now tables.now rows (connective_at nodes.now n) env marks.old marks.new result }
 {
-    let both = pair(nodes, parents, tables, rows, n, env, marks);
+    let (t, u) = pair(nodes, parents, tables, rows, n, env, marks)?;
     let bool = plain(Base::Bool);
-    match both {
-        PairReply::Are(t, u) => both_below(parents, n as u64, bool, bool, t, u),
-        PairReply::Refused(r) => r,
-    }
+    both_below(parents, n as u64, bool, bool, t, u)
 }
 
 // `if`: the condition, then both branches.
@@ -93,21 +84,13 @@ pub fn conditional(
     n: usize,
     env: TypeEnv,
     marks: &mut [u64],
-) -> Reply
+) -> Result<FlatType, Refused>
     requires { NodeRoom n rows (length tables.now) (length nodes.now) (length marks.old) }
     ensures { Types parents.now tables.now rows (conditional_at nodes.now n) env marks.old marks.new result }
 {
-    let both = pair(nodes, parents, tables, rows, n, env, marks);
-    match both {
-        PairReply::Are(c, t) => {
-            let third = operand(nodes, parents, tables, rows, n, 3, env, marks);
-            let Reply::Is(u) = third else {
-                return third;
-            };
-            conditional_type(parents, n as u64, c, t, u)
-        }
-        PairReply::Refused(r) => r,
-    }
+    let (c, t) = pair(nodes, parents, tables, rows, n, env, marks)?;
+    let u = operand(nodes, parents, tables, rows, n, 3, env, marks)?;
+    conditional_type(parents, n as u64, c, t, u)
 }
 
 // By how much the codes of `coll` for a Set, a Sequence and a Bag are above those of their letters.
@@ -125,24 +108,19 @@ pub fn coll(
     form: u64,
     env: TypeEnv,
     marks: &mut [u64],
-) -> Reply
+) -> Result<FlatType, Refused>
     requires set_le_form { (code.set ≤ form) × (form < code.is_undef) }
     requires node_room { NodeRoom n rows (length tables.now) (length nodes.now) (length marks.old) }
     ensures { Types parents.now tables.now rows (assemble_at nodes.now n form) env marks.old marks.new result }
 {
     let count = wide(node_word(nodes, n, 5));
     if 4 < count {
-        return Reply::Is(plain(Base::Void));
+        return Ok(plain(Base::Void));
     }
-    let mut common = Joined::Is(plain(Base::Void));
-    let mut i: usize = 0;
-    while i < count {
-        let member = operand(nodes, parents, tables, rows, n, i + 1, env, marks);
-        let Reply::Is(t) = member else {
-            return member;
-        };
+    let mut common = Some(plain(Base::Void));
+    for i in 0..count {
+        let t = operand(nodes, parents, tables, rows, n, i + 1, env, marks)?;
         common = join_more(parents, common, t);
-        i += 1;
     }
     around_common(n as u64, (form - COLLECTIONS) as u8, common)
 }

@@ -7,13 +7,3 @@ pub mod apply; // the recursion at forms that bind nothing
 pub mod scope; // the recursion at forms that bind a variable in a body
 pub mod walk; // the recursion over operand nodes
 pub mod rules; // a rule, and a definition
-
-use judgements::Reply;
-use types::FlatType;
-
-// The types of two operands; or the first refusal among them.
-#[derive(Clone, Copy)]
-pub enum PairReply {
-    Are(FlatType, FlatType),
-    Refused(Reply),
-}

@@ -9,8 +9,9 @@ ghost use Rattle.typing.specs.Tables.{NodeRoom};
 ghost use Rattle.typing.specs.Rules.{LentTables, TypesRule, TypesDefinition};
 
 use super::walk::node;
-use judgements::Reply;
 use judgements::environment::start_env;
+use memory::refusals::{Refusal, Refused};
+use types::FlatType;
 use types::order::subtype;
 use types::word::unpack;
 
@@ -23,7 +24,7 @@ fn root_type(
     root: usize,
     context: u8,
     marks: &mut [u64],
-) -> Reply
+) -> Result<FlatType, Refused>
     requires { NodeRoom root rows (length tables.now) (length nodes.now) (length marks.old) }
     ensures { (k : Schema) → ReadsRows parents.now tables.now rows k → Tells (type_rule k context (tree_at nodes.now root)) marks.old marks.new result }
 {
@@ -41,7 +42,7 @@ pub fn type_rule(
     marks: &mut [u64],
     context: u8,
     root: usize,
-) -> Reply
+) -> Result<FlatType, Refused>
     requires root_lt_most_nodes { root < most_nodes }
     requires lent_tables { LentTables classes rows (length tables.now) (length nodes.now) (length marks.old) }
     ensures { TypesRule tables.now classes rows nodes.now context root marks.old marks.new result }
@@ -62,18 +63,15 @@ pub fn type_definition(
     context: u8,
     declared: u64,
     root: usize,
-) -> Reply
+) -> Result<FlatType, Refused>
     requires root_lt_most_nodes { root < most_nodes }
     requires lent_tables { LentTables classes rows (length tables.now) (length nodes.now) (length marks.old) }
     ensures { TypesDefinition tables.now classes rows nodes.now context declared root marks.old marks.new result }
 {
-    let body = type_rule(tables, classes, rows, nodes, marks, context, root);
-    let Reply::Is(t) = body else {
-        return body;
-    };
+    let t = type_rule(tables, classes, rows, nodes, marks, context, root)?;
     let whole = unpack(declared);
     if subtype(&tables[..classes], t, whole) {
-        return Reply::Is(whole);
+        return Ok(whole);
     }
-    Reply::No(11, root as u64)
+    Err(Refusal::WrongPiece.at(root as u64))
 }

@@ -7,11 +7,11 @@ ghost use Rattle.types.specs.Flat.{ty_of};
 ghost use Rattle.nodes.specs.Nodes.{word, variable as variableIn};
 ghost use Rattle.typing.specs.Tables.{NodeRoom, Types, let_at, quantified_at, iterate_at, body_at};
 
-use super::PairReply;
 use super::walk::{operand, pair};
+use judgements::TypeEnv;
 use judgements::environment::bind;
 use judgements::forms::condition;
-use judgements::{Reply, TypeEnv};
+use memory::refusals::{Refusal, Refused};
 use memory::words::wide;
 use nodes::node_word;
 use types::FlatType;
@@ -37,14 +37,11 @@ pub fn let_in(
     n: usize,
     env: TypeEnv,
     marks: &mut [u64],
-) -> Reply
+) -> Result<FlatType, Refused>
     requires { NodeRoom n rows (length tables.now) (length nodes.now) (length marks.old) }
     ensures { Types parents.now tables.now rows (let_at nodes.now n) env marks.old marks.new result }
 {
-    let first = operand(nodes, parents, tables, rows, n, 1, env, marks);
-    let Reply::Is(t) = first else {
-        return first;
-    };
+    let t = operand(nodes, parents, tables, rows, n, 1, env, marks)?;
     let inner = bind(env, variable(nodes, n, 3), t);
     operand(nodes, parents, tables, rows, n, 2, inner, marks)
 }
@@ -59,22 +56,16 @@ pub fn quantified(
     n: usize,
     env: TypeEnv,
     marks: &mut [u64],
-) -> Reply
+) -> Result<FlatType, Refused>
     requires { NodeRoom n rows (length tables.now) (length nodes.now) (length marks.old) }
     ensures { Types parents.now tables.now rows (quantified_at nodes.now n) env marks.old marks.new result }
 {
-    let source = operand(nodes, parents, tables, rows, n, 1, env, marks);
-    let Reply::Is(s) = source else {
-        return source;
-    };
+    let s = operand(nodes, parents, tables, rows, n, 1, env, marks)?;
     if outer_code(s) == 0 {
-        return Reply::No(11, n as u64);
+        return Err(Refusal::WrongPiece.at(n as u64));
     }
     let inner = bind(env, variable(nodes, n, 3), member_type(s));
-    let body = operand(nodes, parents, tables, rows, n, 2, inner, marks);
-    let Reply::Is(b) = body else {
-        return body;
-    };
+    let b = operand(nodes, parents, tables, rows, n, 2, inner, marks)?;
     condition(parents, n as u64, b)
 }
 
@@ -88,25 +79,17 @@ pub fn iterate(
     n: usize,
     env: TypeEnv,
     marks: &mut [u64],
-) -> Reply
+) -> Result<FlatType, Refused>
     requires { NodeRoom n rows (length tables.now) (length nodes.now) (length marks.old) }
     ensures { Types parents.now tables.now rows (iterate_at nodes.now n) env marks.old marks.new result }
 {
-    let both = pair(nodes, parents, tables, rows, n, env, marks);
-    match both {
-        PairReply::Are(source, start) => {
-            let t = unpack(node_word(nodes, n, 6));
-            if outer_code(source) == 0 {
-                return Reply::No(11, n as u64);
-            }
-            if subtype(parents, start, t) {
-                let inner = bind(env, variable(nodes, n, 4), member_type(source));
-                return body(nodes, parents, tables, rows, n, t, inner, marks);
-            }
-            Reply::No(11, n as u64)
-        }
-        PairReply::Refused(r) => r,
+    let (source, start) = pair(nodes, parents, tables, rows, n, env, marks)?;
+    let t = unpack(node_word(nodes, n, 6));
+    if outer_code(source) == 0 || !subtype(parents, start, t) {
+        return Err(Refusal::WrongPiece.at(n as u64));
     }
+    let inner = bind(env, variable(nodes, n, 4), member_type(source));
+    body(nodes, parents, tables, rows, n, t, inner, marks)
 }
 
 // The body of `iter`, with the member bound already: it must be below the accumulator's type t, else 11.
@@ -120,17 +103,14 @@ fn body(
     t: FlatType,
     env: TypeEnv,
     marks: &mut [u64],
-) -> Reply
+) -> Result<FlatType, Refused>
     requires { NodeRoom n rows (length tables.now) (length nodes.now) (length marks.old) }
     ensures { Types parents.now tables.now rows (body_at nodes.now n (ty_of t)) env marks.old marks.new result }
 {
     let inner = bind(env, variable(nodes, n, 5), t);
-    let third = operand(nodes, parents, tables, rows, n, 3, inner, marks);
-    let Reply::Is(b) = third else {
-        return third;
-    };
+    let b = operand(nodes, parents, tables, rows, n, 3, inner, marks)?;
     if subtype(parents, b, t) {
-        return Reply::Is(t);
+        return Ok(t);
     }
-    Reply::No(11, n as u64)
+    Err(Refusal::WrongPiece.at(n as u64))
 }

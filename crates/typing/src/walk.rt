@@ -4,16 +4,16 @@
 ghost use Rattle.std.specs.Prelude.{◌<◌, length};
 ghost use Rattle.typing.specs.Tables.{NodeRoom, Types, TypesTwo, node_at, operand_at};
 
-use super::PairReply;
 use super::apply::{binary, coll, conditional, connective, single};
 use super::scope::{iterate, let_in, quantified};
+use judgements::TypeEnv;
 use judgements::forms::leaf_type;
-use judgements::{Reply, TypeEnv};
 use memory::codes;
+use memory::refusals::Refused;
 use memory::words::wide;
 use nodes::node_word;
-use types::Base;
 use types::parts::plain;
+use types::{Base, FlatType};
 
 // Node n. The range of its form's code says how it is typed.
 #[cycle(binary_coll_conditional_connective_single_body_iterate_let_in_quantified_node_operand_pair)]
@@ -25,7 +25,7 @@ pub fn node(
     n: usize,
     env: TypeEnv,
     marks: &mut [u64],
-) -> Reply
+) -> Result<FlatType, Refused>
     requires { NodeRoom n rows (length tables.now) (length nodes.now) (length marks.old) }
     ensures { Types parents.now tables.now rows (node_at nodes.now n) env marks.old marks.new result }
 {
@@ -45,7 +45,7 @@ pub fn node(
         codes::CONDITIONAL => conditional(nodes, parents, tables, rows, n, env, marks),
         codes::LET_IN => let_in(nodes, parents, tables, rows, n, env, marks),
         codes::ITERATE => iterate(nodes, parents, tables, rows, n, env, marks),
-        _ => Reply::Is(plain(Base::Void)),
+        _ => Ok(plain(Base::Void)),
     }
 }
 
@@ -60,14 +60,14 @@ pub fn operand(
     k: usize,
     env: TypeEnv,
     marks: &mut [u64],
-) -> Reply
+) -> Result<FlatType, Refused>
     requires k_bound { k < 8 }
     requires node_room { NodeRoom n rows (length tables.now) (length nodes.now) (length marks.old) }
     ensures { Types parents.now tables.now rows (operand_at nodes.now n k) env marks.old marks.new result }
 {
     let a = wide(node_word(nodes, n, k));
     if n <= a {
-        return Reply::Is(plain(Base::Void));
+        return Ok(plain(Base::Void));
     }
     node(nodes, parents, tables, rows, a, env, marks)
 }
@@ -82,17 +82,11 @@ pub fn pair(
     n: usize,
     env: TypeEnv,
     marks: &mut [u64],
-) -> PairReply
+) -> Result<(FlatType, FlatType), Refused>
     requires { NodeRoom n rows (length tables.now) (length nodes.now) (length marks.old) }
     ensures { TypesTwo parents.now tables.now rows (operand_at nodes.now n 1) (operand_at nodes.now n 2) env marks.old marks.new result }
 {
-    let first = operand(nodes, parents, tables, rows, n, 1, env, marks);
-    let Reply::Is(t) = first else {
-        return PairReply::Refused(first);
-    };
-    let second = operand(nodes, parents, tables, rows, n, 2, env, marks);
-    let Reply::Is(u) = second else {
-        return PairReply::Refused(second);
-    };
-    PairReply::Are(t, u)
+    let t = operand(nodes, parents, tables, rows, n, 1, env, marks)?;
+    let u = operand(nodes, parents, tables, rows, n, 2, env, marks)?;
+    Ok((t, u))
 }

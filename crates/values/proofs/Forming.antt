@@ -4,21 +4,18 @@ use mathlib.Core.Bool.{Bool, true, false}
 use mathlib.Core.List.{List, ◌++◌}
 use Prim.Native.Nat.{ℕ, ◌+◌, ◌-◌, ◌<◌, ◌≤◌}
 use native.Mathlib.Omega.{arith}
-use lib.ListN.{length, take, drop}
+use lib.ListN.{length, take, drop, length-drop}
 use lib.Seq.{slice, length-slice, length-take-le, paste, take-paste, take_all}
 use lib.Dec.{leb}
 use borrow.Author.Tests.{lt-leb, le-leb, leb-true, leb-false}
-use Rattle.std.specs.Prelude.{if◌then◌else◌}
+use Rattle.std.specs.Prelude.{if◌then◌else◌, Option as Optional, Some, None}
 use Rattle.laws.proofs.Slices.{cut_part, slice_join, trim}
 use Rattle.ocl.specs.Values.{Value, size}
 use Rattle.values.specs.Cells.{enc, past, Fits}
 use Rattle.values.specs.Meanings.{Skips, SmallForm, Forms, Copies, Brings}
-use Rattle.values.specs.declared.Formed.{Formed}
-use Rattle.values.specs.declared.Formed.TheVariants as formed
 use Rattle.values.proofs.Encoding.{size_law, past_law}
-use Rattle.values.proofs.Sliding.{part_length}
 
-pub forms_done : {v : Value} {sp n : ℕ} (B : List ℕ) {D : List ℕ} → Fits v → size v ≡ n → n ≤ 128 → sp ≤ length B → take (sp + n) D ≡ take sp B ++ enc v → Forms v sp (take sp B) D (formed.Done n)
+pub forms_done : {v : Value} {sp n : ℕ} (B : List ℕ) {D : List ℕ} → Fits v → size v ≡ n → n ≤ 128 → sp ≤ length B → take (sp + n) D ≡ take sp B ++ enc v → Forms v sp (take sp B) D (Some n)
 forms_done {v} {sp} {n} B {D} f e s h l = record {
   below = trim sp n D (take sp B) (enc v) (length-take-le sp B h) l;
   is = rw (e, le-leb n 128 s);
@@ -26,27 +23,27 @@ forms_done {v} {sp} {n} B {D} f e s h l = record {
   fits = λ _. f;
 }
 
-pub forms_over : {v : Value} {sp : ℕ} {low D : List ℕ} → 128 < size v → take sp D ≡ low → Forms v sp low D formed.Over
+pub forms_over : {v : Value} {sp : ℕ} {low D : List ℕ} → 128 < size v → take sp D ≡ low → Forms v sp low D None
 forms_over {v} h l = record { below = l; is = rw (lt-leb (size v) 128 h); lies = λ s. absurd (omega arith); fits = λ s. absurd (omega arith) }
 
-pub done_size : {w : Value} {sp n : ℕ} {low A : List ℕ} {f : Formed} → Forms w sp low A f → f ≡ formed.Done n → (n ≡ size w) × (size w ≤ 128)
+pub done_size : {w : Value} {sp n : ℕ} {low A : List ℕ} {f : Optional ℕ} → Forms w sp low A f → f ≡ Some n → (n ≡ size w) × (size w ≤ 128)
 done_size {w} {sp} {n} F q = by (leb (size w) 128) refl (sym q ∙ F.is)
   where
-    by : (b : Bool) → leb (size w) 128 ≡ b → formed.Done n ≡ (if b then formed.Done (size w) else formed.Over) → (n ≡ size w) × (size w ≤ 128)
+    by : (b : Bool) → leb (size w) 128 ≡ b → Some n ≡ (if b then Some (size w) else None) → (n ≡ size w) × (size w ≤ 128)
     by true e i = ((cc), leb-true (size w) 128 e)
     by false e i = absurd (let z : ◌≡◌ {A = ℕ} 0 1 = cc in omega arith)
 
-pub over_size : {w : Value} {sp : ℕ} {low A : List ℕ} {f : Formed} → Forms w sp low A f → f ≡ formed.Over → 128 < size w
+pub over_size : {w : Value} {sp : ℕ} {low A : List ℕ} {f : Optional ℕ} → Forms w sp low A f → f ≡ None → 128 < size w
 over_size {w} F q = by (leb (size w) 128) refl (sym q ∙ F.is)
   where
-    by : (b : Bool) → leb (size w) 128 ≡ b → formed.Over ≡ (if b then formed.Done (size w) else formed.Over) → 128 < size w
+    by : (b : Bool) → leb (size w) 128 ≡ b → None ≡ (if b then Some (size w) else None) → 128 < size w
     by true e i = absurd (let z : ◌≡◌ {A = ℕ} 0 1 = cc in omega arith)
     by false e i = leb-false (size w) 128 e
 
-pub small_over : {f : Formed} → f ≡ formed.Over → SmallForm f
+pub small_over : {f : Optional ℕ} → f ≡ None → SmallForm f
 small_over e = rw e tt
 
-pub bounds : {f : Formed} {n : ℕ} → SmallForm f → f ≡ formed.Done n → (1 ≤ n) × (n ≤ 128)
+pub bounds : {f : Optional ℕ} {n : ℕ} → SmallForm f → f ≡ Some n → (1 ≤ n) × (n ≤ 128)
 bounds x e = rw e at x
 
 -- ---- a part's length is the value's size
@@ -61,13 +58,13 @@ after_value {q = q} {v = v} y f e k = k.is ∙ ap (λ (l : List ℕ). q + past l
 -- ---- a copy from other words
 
 module _ {L S : List ℕ} {a e sp : ℕ} (h : a < e) (room : e ≤ length L) where
-  pub brings_over : 128 < e - a → Brings L a e sp S S formed.Over
+  pub brings_over : 128 < e - a → Brings L a e sp S S None
   brings_over l = record { small = tt; low = refl; is = λ v f d. forms_over (let z = part_size L a e v room d in omega arith) refl }
 
-  pub brings_done : {D : List ℕ} → e - a ≤ 128 → sp + (e - a) ≤ length S → D ≡ paste S sp (take (e - a) (drop a L)) (length (take (e - a) (drop a L))) → Brings L a e sp S D (formed.Done (e - a))
+  pub brings_done : {D : List ℕ} → e - a ≤ 128 → sp + (e - a) ≤ length S → D ≡ paste S sp (take (e - a) (drop a L)) (length (take (e - a) (drop a L))) → Brings L a e sp S D (Some (e - a))
   brings_done {D} l k p =
       let part = take (e - a) (drop a L) in
-      let n = part_length L a (e - a) (omega arith) in
+      let n = length-take-le (e - a) (drop a L) (rw (length-drop a L) (omega arith)) in
       let there : take (sp + (e - a)) D ≡ take sp S ++ part =
       rw (p, n) (take-paste S sp part (e - a) (omega arith) (omega arith) ∙ ap (λ (l : List ℕ). take sp S ++ l) (take_all (e - a) part (omega arith))) in
       record {
@@ -87,10 +84,10 @@ module _ {S : List ℕ} {p sp r : ℕ} (h : p < sp) (room : sp ≤ length S) (k 
       let j = slice_join S p (p + size v) sp (omega arith) l (omega arith) ∙ ap (λ (x : List ℕ). x ++ slice (p + size v) sp S) e in
       let z = after_value (slice (p + size v) sp S) f j k in let n = size_law v in omega arith
 
-  pub copies_over : 128 < r - p → Copies p sp S S formed.Over
+  pub copies_over : 128 < r - p → Copies p sp S S None
   copies_over l = record { small = tt; low = refl; is = λ v f m e. forms_over (let z = copy_size f m e in omega arith) refl }
 
-  pub copies_done : {D : List ℕ} → r - p ≤ 128 → take (sp + (r - p)) D ≡ take sp S ++ take (r - p) (drop p S) → Copies p sp S D (formed.Done (r - p))
+  pub copies_done : {D : List ℕ} → r - p ≤ 128 → take (sp + (r - p)) D ≡ take sp S ++ take (r - p) (drop p S) → Copies p sp S D (Some (r - p))
   copies_done {D} l t = record {
     small = (let u = k.up h in omega arith, l);
     low = trim sp (r - p) D (take sp S) (take (r - p) (drop p S)) (length-take-le sp S room) t;

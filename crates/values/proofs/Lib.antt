@@ -6,7 +6,6 @@ pub mod Growing
 pub mod Scanning
 pub mod Comparing
 mod Seeking
-mod Sliding
 mod Finding
 mod Putting
 pub mod Adding

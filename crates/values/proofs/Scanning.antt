@@ -8,6 +8,7 @@ use native.Mathlib.Numerals.{add-one}
 use lib.ListN.{length, get_or, take, set}
 use lib.Seq.{slice, slice-cons, length-slice, take-suc-set, take-set-le}
 use lib.IntN.{ℤ}
+use mir.Val.{bool_byte}
 use lib.Dec.{T, eqb}
 use lib.Ieee.{Float}
 use lib.Ieee.Scale.{finite}
@@ -16,8 +17,6 @@ use Rattle.reals.specs.Reals.{Number, int, real, in_range, kept}
 use Rattle.floats.specs.Meanings.{coded_of, Sound, NumberOf, CellOf as NumberCell, integer_of, IntegerIn, IntegerCell}
 use Rattle.floats.specs.declared.Number.{Number as Coded}
 use Rattle.floats.specs.declared.Number.TheVariants as coded
-use Rattle.floats.specs.declared.Whole.{Whole}
-use Rattle.floats.specs.declared.Whole.TheVariants as whole
 use Rattle.floats.proofs.Coding.{same_integer, same_float, no_integer_lem, no_float}
 use Rattle.ocl.specs.Values.{Value, num, nil, count, sort}
 use Rattle.ocl.specs.Operations.{is_int}
@@ -27,6 +26,7 @@ use Rattle.values.specs.declared.Simple.{Simple}
 use Rattle.values.specs.declared.Simple.TheVariants as simple
 use Rattle.values.proofs.Heads.{bit_small, head_coll, start, band, payload_back, Shape, shape_bool, shape_num, shape_obj, shape_coll, shape}
 use Rattle.values.proofs.Encoding.{past_zero}
+use Rattle.std.specs.Prelude.{Option as Optional, Some, None}
 
 -- ---- single cells
 
@@ -106,13 +106,10 @@ module _ {s : Simple} where
   pub narrow_obj : {n : ℕ} → Narrow s → s ≡ simple.Object n → n < 4294967296
   narrow_obj h e = rw e at h
 
-pub bit_true : {b : Bool} → b ≡ true → 1 ≡ bit b
+pub bit_byte : (b : Bool) → bool_byte b ≡ bit b
 unfolding bit
-bit_true e = rw e
-
-pub bit_false : {b : Bool} → b ≡ false → 0 ≡ bit b
-unfolding bit
-bit_false e = rw e
+bit_byte true = refl
+bit_byte false = refl
 
 -- ---- and back
 
@@ -178,11 +175,11 @@ module _ {c t : ℕ} {w : Coded} (S : SortOf c t) (h : t ≡ 1) (N : NumberOf c 
 -- ---- the Integer in a cell
 
 -- what a value is, by what was found in its first cell
-pub data Integral (t : Whole) : Value → Type 0 where
-  integral : {z : ℤ} → t ≡ whole.Is (bias z) → T (in_range z) → Integral t (num (int z))
-  no_integral : {v : Value} → t ≡ whole.No → is_int v ≡ false → Integral t v
+pub data Integral (t : Optional ℕ) : Value → Type 0 where
+  integral : {z : ℤ} → t ≡ Some (bias z) → T (in_range z) → Integral t (num (int z))
+  no_integral : {v : Value} → t ≡ None → is_int v ≡ false → Integral t v
 
-pub integral_of : {c : ℕ} {t : Whole} {v : Value} → IntegerIn c t → Fits v → c ≡ head v → Integral t v
+pub integral_of : {c : ℕ} {t : Optional ℕ} {v : Value} → IntegerIn c t → Fits v → c ≡ head v → Integral t v
 unfolding head integer_of kept
 integral_of I (fits_bool {b}) e = no_integral (I.low (let h = bit_small b in omega (arith, e, h))) refl
 integral_of I (fits_num {x = int z} k) e = integral (I.is (int z) k e) k
@@ -190,18 +187,18 @@ integral_of I (fits_num {x = real r} k) e = no_integral (I.is (real r) k e) refl
 integral_of I (fits_obj h) e = no_integral (I.high (omega (arith, e))) refl
 integral_of I (fits_coll h f) e = no_integral (I.high (omega (arith, e))) refl
 
-abbrev found : Whole → Bool
-found (whole.Is n) = true
-found whole.No = false
+abbrev found : Optional ℕ → Bool
+found (Some n) = true
+found None = false
 
-pub integer_yes : {c n : ℕ} {t : Whole} → IntegerIn c t → t ≡ whole.Is n → IntegerTest c true
+pub integer_yes : {c n : ℕ} {t : Optional ℕ} → IntegerIn c t → t ≡ Some n → IntegerTest c true
 integer_yes {t = t} I q = record { is = λ v f e. by (integral_of I f e) }
   where
     by : {v : Value} → Integral t v → true ≡ is_int v
     by (integral i h) = refl
     by (no_integral i h) = ap found (sym q ∙ i) ∙ sym h
 
-pub integer_no : {c : ℕ} {t : Whole} → IntegerIn c t → t ≡ whole.No → IntegerTest c false
+pub integer_no : {c : ℕ} {t : Optional ℕ} → IntegerIn c t → t ≡ None → IntegerTest c false
 integer_no {t = t} I q = record { is = λ v f e. by (integral_of I f e) }
   where
     by : {v : Value} → Integral t v → false ≡ is_int v

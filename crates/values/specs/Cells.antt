@@ -5,6 +5,8 @@
 use Rattle.std.specs.Prelude.{Bool, true, false, List, [], ◌∷◌, ◌++◌, T, ltb}
 use Prim.Native.Nat.{ℕ, zero, suc, ◌+◌, ◌*◌, ◌%◌, ◌<◌, compare, Ordering}
 use Rattle.std.specs.Prelude.{if◌then◌else◌}
+use Rattle.std.specs.declared.cmp.Ordering.{Ordering as Library}
+use Rattle.std.specs.declared.cmp.Ordering.TheVariants.{Less, Equal, Greater}
 unfoldable pub use Rattle.laws.specs.Integers.{bias}
 use Rattle.reals.specs.Reals.{Number, kept}
 use Rattle.reals.specs.Words.{cell}
@@ -75,11 +77,11 @@ lex [] (b ∷ ys) = Ordering.lt
 lex (a ∷ xs) [] = Ordering.gt
 lex (a ∷ xs) (b ∷ ys) = then_order (compare a b) (lex xs ys)
 
--- 0 for less, 1 for the same, 2 for greater
-unfoldable pub code : Ordering → ℕ
-code Ordering.lt = 0
-code Ordering.eq = 1
-code Ordering.gt = 2
+-- an order as code answers it
+unfoldable pub ordering : Ordering → Library
+ordering Ordering.lt = Less
+ordering Ordering.eq = Equal
+ordering Ordering.gt = Greater
 
 -- how many members the value with this first cell has; the cells of collections come last
 unfoldable pub kids : ℕ → ℕ

@@ -1,25 +1,25 @@
 -- What the contracts of the arithmetic on Integers say: each number is an Integer with its bias.
-use Rattle.std.specs.Prelude.{◌≡◌, Bool, true, false, ℕ, zero, suc, ◌+◌, ◌-◌, ℤ, pos, neg_ℤ, T, ltb, leb}
+use Rattle.std.specs.Prelude.{◌≡◌, Bool, true, false, ℕ, zero, suc, ◌+◌, ◌-◌, ℤ, pos, neg_ℤ, T, ltb, leb, Result as Fallible, Ok, Err}
 use Rattle.std.specs.Prelude.{if◌then◌else◌}
 use Rattle.laws.specs.Integers.{integer_end}
 use Rattle.reals.specs.Reals.{int, real, in_range, Result, result, no_result, over_range}
 use Rattle.ocl.specs.Forms.{Arith, plus, minus, times, Division, div, modulo}
 use Rattle.ocl.specs.Operations.{arithmetic, division}
 use Rattle.values.specs.Cells.{bias}
-use Rattle.values.specs.declared.IntegerResult.{IntegerResult}
-use Rattle.values.specs.declared.IntegerResult.TheVariants as num
+use Rattle.floats.specs.declared.NoNumber.{NoNumber}
+use Rattle.floats.specs.declared.NoNumber.TheVariants.{OverRange, Undefined}
 
 -- the code's answer for what arithmetic on Integers comes to, which is never a Real
-unfoldable pub num_of : Result → IntegerResult
-num_of (result (int z)) = num.Is (bias z)
-num_of (result (real r)) = num.Over
-num_of no_result = num.Undef
-num_of over_range = num.Over
+unfoldable pub num_of : Result → Fallible ℕ NoNumber
+num_of (result (int z)) = Ok (bias z)
+num_of (result (real r)) = Err OverRange
+num_of no_result = Err Undefined
+num_of over_range = Err OverRange
 
-pub record Calculates (op : Arith) (a b : ℕ) (r : IntegerResult) : Type 0 where
+pub record Calculates (op : Arith) (a b : ℕ) (r : Fallible ℕ NoNumber) : Type 0 where
   pub is : (x y : ℤ) → T (in_range x) → T (in_range y) → a ≡ bias x → b ≡ bias y → r ≡ num_of (arithmetic op x y)
 
-pub record Divides (op : Division) (a b : ℕ) (r : IntegerResult) : Type 0 where
+pub record Divides (op : Division) (a b : ℕ) (r : Fallible ℕ NoNumber) : Type 0 where
   pub is : (x y : ℤ) → T (in_range x) → T (in_range y) → a ≡ bias x → b ≡ bias y → r ≡ num_of (division op x y)
 
 -- the operations with the number

@@ -1,6 +1,6 @@
 -- What the contracts say. A value lies from a to b if the cells there are its own. Each promise holds for every value that lies
 -- there; what is formed lies at sp, and the cells below sp stay as they were.
-use Rattle.std.specs.Prelude.{◌≡◌, Bool, true, false, List, ◌∷◌, ◌++◌, ℕ, suc, ◌+◌, ◌-◌, ◌<◌, ◌≤◌, length, get_or, take, drop, T, leb, ℤ, Float}
+use Rattle.std.specs.Prelude.{◌≡◌, Bool, true, false, List, ◌∷◌, ◌++◌, ℕ, suc, ◌+◌, ◌-◌, ◌<◌, ◌≤◌, length, get_or, take, drop, T, leb, ℤ, Float, Option as Optional, Some, None, Result, Ok, Err}
 use Rattle.std.proofs.Math.Seq.{slice}
 use Rattle.std.specs.Float.Ieee.Scale.{finite}
 use Rattle.std.specs.Prelude.{if◌then◌else◌}
@@ -13,10 +13,6 @@ use Rattle.reals.specs.Floats.{f64_of}
 use Rattle.values.specs.Cells.{bias, payload, head, enc, encs, Fits, AllFit, past, sort_span, cells_top}
 use Rattle.values.specs.declared.Simple.{Simple}
 use Rattle.values.specs.declared.Simple.TheVariants as simple
-use Rattle.values.specs.declared.Spot.{Spot}
-use Rattle.values.specs.declared.Spot.TheVariants as spot
-use Rattle.values.specs.declared.Formed.{Formed}
-use Rattle.values.specs.declared.Formed.TheVariants as formed
 
 -- ---- single cells
 
@@ -91,15 +87,15 @@ pub record Into (repeats : Bool) (v : Value) (vs : Values) (from at : ℕ) : Typ
   pub one : count (insert repeats v vs) ≡ suc (count vs)
 
 -- at a member that is the same, or at a place where it is new
-abbrev pub SpotIs : Value → Values → ℕ → Spot → Type 0
-SpotIs v vs from (spot.Same at) = Into true v vs from at × (insert false v vs ≡ vs)
-SpotIs v vs from (spot.New at) = (repeats : Bool) → Into repeats v vs from at
+abbrev pub SpotIs : Value → Values → ℕ → Result ℕ ℕ → Type 0
+SpotIs v vs from (Ok at) = Into true v vs from at × (insert false v vs ≡ vs)
+SpotIs v vs from (Err at) = (repeats : Bool) → Into repeats v vs from at
 
-abbrev pub place : Spot → ℕ
-place (spot.Same at) = at
-place (spot.New at) = at
+abbrev pub place : Result ℕ ℕ → ℕ
+place (Ok at) = at
+place (Err at) = at
 
-pub record Finds (S : List ℕ) (from end le : ℕ) (r : Spot) : Type 0 where
+pub record Finds (S : List ℕ) (from end le : ℕ) (r : Result ℕ ℕ) : Type 0 where
   pub up : from ≤ place r
   pub within : place r ≤ end
   pub is : (v : Value) (vs : Values) → Fits v → AllFit vs → slice from end S ≡ encs vs → slice end (end + le) S ≡ enc v → SpotIs v vs from r
@@ -107,29 +103,29 @@ pub record Finds (S : List ℕ) (from end le : ℕ) (r : Spot) : Type 0 where
 -- ---- forming
 
 -- what was formed has between 1 and 128 cells
-abbrev pub SmallForm : Formed → Type 0
-SmallForm (formed.Done n) = (1 ≤ n) × (n ≤ largest)
-SmallForm formed.Over = Unit {0}
+abbrev pub SmallForm : Optional ℕ → Type 0
+SmallForm (Some n) = (1 ≤ n) × (n ≤ largest)
+SmallForm None = Unit {0}
 
 -- the value w is formed at sp: Over exactly when its size is over 128, else its cells lie there
-pub record Forms (w : Value) (sp : ℕ) (low after : List ℕ) (r : Formed) : Type 0 where
+pub record Forms (w : Value) (sp : ℕ) (low after : List ℕ) (r : Optional ℕ) : Type 0 where
   pub below : take sp after ≡ low
-  pub is : r ≡ (if leb (size w) largest then formed.Done (size w) else formed.Over)
+  pub is : r ≡ (if leb (size w) largest then Some (size w) else None)
   pub lies : size w ≤ largest → take (sp + size w) after ≡ low ++ enc w
   pub fits : size w ≤ largest → Fits w
 
 -- the le cells at mid go in at `at`, and the first cell at sp counts one more
-pub record PutsIn (sp at mid le : ℕ) (before after : List ℕ) (r : Formed) : Type 0 where
+pub record PutsIn (sp at mid le : ℕ) (before after : List ℕ) (r : Optional ℕ) : Type 0 where
   pub small : SmallForm r
   pub low : take sp after ≡ take sp before
-  pub over : largest < mid - sp + le → r ≡ formed.Over
-  pub done : mid - sp + le ≤ largest → get_or before sp 0 < cells_top → r ≡ formed.Done (mid - sp + le)
+  pub over : largest < mid - sp + le → r ≡ None
+  pub done : mid - sp + le ≤ largest → get_or before sp 0 < cells_top → r ≡ Some (mid - sp + le)
   pub lies : mid - sp + le ≤ largest → get_or before sp 0 < cells_top
       → take (sp + (mid - sp + le)) after
       ≡ take sp before ++ ((get_or before sp 0 + 1) ∷ (slice (sp + 1) at before ++ (slice mid (mid + le) before ++ slice at mid before)))
 
 -- the value from mid on is added to the collection from sp to mid
-pub record Adds (sp mid le : ℕ) (before after : List ℕ) (r : Formed) : Type 0 where
+pub record Adds (sp mid le : ℕ) (before after : List ℕ) (r : Optional ℕ) : Type 0 where
   pub small : SmallForm r
   pub low : take sp after ≡ take sp before
   pub is : (k : Kind) (vs : Values) (v : Value) → Fits (coll k vs) → Fits v
@@ -137,14 +133,14 @@ pub record Adds (sp mid le : ℕ) (before after : List ℕ) (r : Formed) : Type 
       → Forms (coll k (add k v vs)) sp (take sp before) after r
 
 -- the simple value is put at the end of the collection from sp to mid, whatever its kind
-pub record Appends (s : Simple) (sp mid : ℕ) (before after : List ℕ) (r : Formed) : Type 0 where
+pub record Appends (s : Simple) (sp mid : ℕ) (before after : List ℕ) (r : Optional ℕ) : Type 0 where
   pub small : SmallForm r
   pub low : take sp after ≡ take sp before
   pub is : (k : Kind) (vs : Values) (v : Value) → Fits (coll k vs) → Fits v → Means s v → slice sp mid before ≡ enc (coll k vs)
       → Forms (coll k (append v vs)) sp (take sp before) after r
 
 -- the members from `from` to end are added to the collection of len cells at top
-pub record Gathers (from end top len : ℕ) (before after : List ℕ) (r : Formed) : Type 0 where
+pub record Gathers (from end top len : ℕ) (before after : List ℕ) (r : Optional ℕ) : Type 0 where
   pub small : SmallForm r
   pub low : take top after ≡ take top before
   pub is : (k : Kind) (us vs : Values) → Fits (coll k us) → AllFit vs
@@ -152,10 +148,10 @@ pub record Gathers (from end top len : ℕ) (before after : List ℕ) (r : Forme
       → Forms (coll k (add_all k vs us)) top (take top before) after r
 
 -- what was formed at `from` is moved down to sp
-pub record Moves (sp from : ℕ) (f : Formed) (before after : List ℕ) (r : Formed) : Type 0 where
+pub record Moves (sp from : ℕ) (f : Optional ℕ) (before after : List ℕ) (r : Optional ℕ) : Type 0 where
   pub same : r ≡ f
   pub low : take sp after ≡ take sp before
-  pub lies : (n : ℕ) → f ≡ formed.Done n → take (sp + n) after ≡ take sp before ++ slice from (from + n) before
+  pub lies : (n : ℕ) → f ≡ Some n → take (sp + n) after ≡ take sp before ++ slice from (from + n) before
 
 -- the kinds whose members ascend: by how much each is above the one before it, at least
 pub data Apart : Kind → ℕ → Type 0 where
@@ -176,7 +172,7 @@ pub record Merges (h from mid start top : ℕ) (before after : List ℕ) (r : �
   pub low : take top after ≡ take top before
   pub is : 0 < r → (k : Kind) (us vs : Values) → h ≡ head (coll k us) → Fits (coll k us) → AllFit vs
       → slice from mid before ≡ encs us → slice start top before ≡ encs vs
-      → Forms (coll k (add_all k vs us)) top (take top before) after (formed.Done r)
+      → Forms (coll k (add_all k vs us)) top (take top before) after (Some r)
 
 -- the same for the kinds with this distance
 pub record MergesBy (apart h from mid start top : ℕ) (before after : List ℕ) (r : ℕ) : Type 0 where
@@ -184,24 +180,24 @@ pub record MergesBy (apart h from mid start top : ℕ) (before after : List ℕ)
   pub low : take top after ≡ take top before
   pub is : 0 < r → (k : Kind) (us vs : Values) → Apart k apart → h ≡ head (coll k us) → Fits (coll k us) → AllFit vs
       → slice from mid before ≡ encs us → slice start top before ≡ encs vs
-      → Forms (coll k (add_all k vs us)) top (take top before) after (formed.Done r)
+      → Forms (coll k (add_all k vs us)) top (take top before) after (Some r)
 
 -- the members from `from` to end, as a collection of the kind
-pub record Assembles (kind sp from end : ℕ) (before after : List ℕ) (r : Formed) : Type 0 where
+pub record Assembles (kind sp from end : ℕ) (before after : List ℕ) (r : Optional ℕ) : Type 0 where
   pub small : SmallForm r
   pub low : take sp after ≡ take sp before
   pub is : (k : Kind) (vs : Values) → kind ≡ kind_code k → AllFit vs → slice from end before ≡ encs vs
       → Forms (coll k (add_all k vs nil)) sp (take sp before) after r
 
 -- the collection from sp to mid, as one of the kind
-pub record Converts (kind sp mid : ℕ) (before after : List ℕ) (r : Formed) : Type 0 where
+pub record Converts (kind sp mid : ℕ) (before after : List ℕ) (r : Optional ℕ) : Type 0 where
   pub small : SmallForm r
   pub low : take sp after ≡ take sp before
   pub is : (j k : Kind) (vs : Values) → kind ≡ kind_code k → Fits (coll j vs) → slice sp mid before ≡ enc (coll j vs)
       → Forms (coll k (add_all k vs nil)) sp (take sp before) after r
 
 -- the collections of one kind from sp to mid and from mid to end
-pub record Unites (sp mid end : ℕ) (before after : List ℕ) (r : Formed) : Type 0 where
+pub record Unites (sp mid end : ℕ) (before after : List ℕ) (r : Optional ℕ) : Type 0 where
   pub small : SmallForm r
   pub low : take sp after ≡ take sp before
   pub is : (k : Kind) (us vs : Values) → Fits (coll k us) → Fits (coll k vs)
@@ -214,13 +210,13 @@ pub record Slides (from to len : ℕ) (before after : List ℕ) : Type 0 where
   pub behind : drop (to + len) after ≡ drop (to + len) before
 
 -- the value at p, below sp, once more at sp
-pub record Copies (p sp : ℕ) (before after : List ℕ) (r : Formed) : Type 0 where
+pub record Copies (p sp : ℕ) (before after : List ℕ) (r : Optional ℕ) : Type 0 where
   pub small : SmallForm r
   pub low : take sp after ≡ take sp before
   pub is : (v : Value) → Fits v → p + size v ≤ sp → slice p (p + size v) before ≡ enc v → Forms v sp (take sp before) after r
 
 -- the value from a to e of other cells, at sp
-pub record Brings (cells : List ℕ) (a e sp : ℕ) (before after : List ℕ) (r : Formed) : Type 0 where
+pub record Brings (cells : List ℕ) (a e sp : ℕ) (before after : List ℕ) (r : Optional ℕ) : Type 0 where
   pub small : SmallForm r
   pub low : take sp after ≡ take sp before
   pub is : (v : Value) → Fits v → slice a e cells ≡ enc v → Forms v sp (take sp before) after r

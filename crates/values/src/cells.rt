@@ -5,9 +5,9 @@ ghost use Rattle.ocl.specs.Values.{largest};
 ghost use Rattle.values.specs.Cells.{kids, sort_span};
 ghost use Rattle.values.specs.Meanings.{SortOf, PayloadOf, IntegerTest, SimpleOf, CellOf, Narrow, Pushes, EmptyOf, Skips, Slides, Copies, Brings};
 
-use crate::{Formed, Simple};
+use crate::Simple;
+use floats::Number;
 use floats::cells::{ABOVE, integer_cell, integer_in, number_of};
-use floats::{Number, Whole};
 use memory::words::wide;
 
 // The cells of truth values are below this, and those of numbers follow.
@@ -57,10 +57,7 @@ pub fn payload_of(cell: u64) -> u64
 pub fn is_integer(cell: u64) -> bool
     ensures { IntegerTest cell result }
 {
-    match integer_in(cell) {
-        Whole::Is { n: _ } => true,
-        Whole::No => false,
-    }
+    matches!(integer_in(cell), Some(_))
 }
 
 // The simple value with this cell. For a collection's cell the result means nothing.
@@ -68,17 +65,14 @@ pub fn simple_of(cell: u64) -> Simple
     ensures { SimpleOf cell result }
 {
     let payload = payload_of(cell);
-    let sort = sort_of(cell);
-    if sort == 0 {
-        return Simple::Bool { b: payload == 1 };
-    }
-    if sort == NUMBER {
-        return match number_of(cell) {
+    match sort_of(cell) {
+        0 => Simple::Bool { b: payload == 1 },
+        NUMBER => match number_of(cell) {
             Number::Integer { biased } => Simple::Integer { biased },
             Number::Real(x) => Simple::Real(x),
-        };
+        },
+        _ => Simple::Object { number: payload },
     }
-    Simple::Object { number: payload }
 }
 
 // The cell of a simple value.
@@ -87,7 +81,7 @@ pub fn cell_of(s: Simple) -> u64
     ensures { CellOf s result }
 {
     match s {
-        Simple::Bool { b } => { if b { 1 } else { 0 } }
+        Simple::Bool { b } => u64::from(b),
         Simple::Integer { biased } => integer_cell(biased),
         Simple::Real(x) => floats::cells::cell_of(Number::Real(x)),
         Simple::Object { number } => OBJECTS + number,
@@ -128,6 +122,7 @@ pub fn skip(stack: &[u64], p: usize, limit: usize) -> usize
 {
     let mut q = p;
     let mut n: usize = 1;
+    // n values are still to be passed, and each cell adds its members
     while 0 < n {
         if limit - q < n {
             return limit;
@@ -138,30 +133,26 @@ pub fn skip(stack: &[u64], p: usize, limit: usize) -> usize
     q
 }
 
-// Copies the len cells at `from` to `to`, the first one first: so `to` must not be above `from`, unless the parts don't overlap.
+// Copies the len cells at `from` to `to`, which must not be above `from` unless the parts don't overlap.
 pub fn slide(stack: &mut [u64], from: usize, to: usize, len: usize)
     requires len_in_bounds { (from + len ≤ length stack.old) × (to + len ≤ length stack.old) }
     requires fact { (to ≤ from) ⊎ (from + len ≤ to) }
     ensures { Slides from to len stack.old stack.new }
 {
-    let mut i = 0;
-    while i < len {
-        stack[to + i] = stack[from + i];
-        i += 1;
-    }
+    stack.copy_within(from..from + len, to);
 }
 
 // Copies the value at p to sp.
-pub fn push_copy(stack: &mut [u64], p: usize, sp: usize) -> Formed
+pub fn push_copy(stack: &mut [u64], p: usize, sp: usize) -> Option<usize>
     requires { (p < sp) × (sp + largest ≤ length stack.old) }
     ensures { Copies p sp stack.old stack.new result }
 {
     let len = skip(stack, p, sp) - p;
     if LARGEST < len {
-        return Formed::Over;
+        return None;
     }
     slide(stack, p, sp, len);
-    Formed::Done { len }
+    Some(len)
 }
 
 // Copies the cells to `at`.
@@ -169,22 +160,18 @@ pub fn copy_cells(stack: &mut [u64], at: usize, cells: &[u64])
     requires { at + length cells.now ≤ length stack.old }
     ensures { stack.new ≡ paste stack.old at cells.now (length cells.now) }
 {
-    let mut i: usize = 0;
-    while i < cells.len() {
-        stack[at + i] = cells[i];
-        i += 1;
-    }
+    stack[at..at + cells.len()].copy_from_slice(cells);
 }
 
 // Copies the value that lies from a to e in other words to sp.
-pub fn push_cells(stack: &mut [u64], sp: usize, cells: &[u64], a: usize, e: usize) -> Formed
+pub fn push_cells(stack: &mut [u64], sp: usize, cells: &[u64], a: usize, e: usize) -> Option<usize>
     requires { (a < e) × (e ≤ length cells.now) × (sp + largest ≤ length stack.old) }
     ensures { Brings cells.now a e sp stack.old stack.new result }
 {
     let len = e - a;
     if LARGEST < len {
-        return Formed::Over;
+        return None;
     }
     copy_cells(stack, sp, &cells[a..e]);
-    Formed::Done { len }
+    Some(len)
 }

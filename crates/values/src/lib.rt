@@ -19,25 +19,3 @@ pub enum Simple {
     Real(f64),
     Object { number: u64 },
 }
-
-// Where a member goes: to a member that is the same, or to a place where it is new.
-#[derive(Clone, Copy)]
-pub enum Spot {
-    Same { at: usize },
-    New { at: usize },
-}
-
-// A value of len cells was formed, or its size would be over 128.
-#[derive(Clone, Copy)]
-pub enum Formed {
-    Done { len: usize },
-    Over,
-}
-
-// What an operation on Integers comes to: a result, counted from -2147483648; none; or one that is over the range.
-#[derive(Clone, Copy)]
-pub enum IntegerResult {
-    Is { n: u64 },
-    Undef,
-    Over,
-}

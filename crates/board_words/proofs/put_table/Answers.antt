@@ -1,6 +1,5 @@
 -- `board_words::put_table` meets its contract. Assumes nothing.
 use native.Mathlib.Omega.{arith}
-use Prim.Native.Nat.{zero-le}
 use mathlib.Core.Path.{refl}
 use lib.ListN.{take, length-set}
 use lib.Seq.{paste-zero}
@@ -9,16 +8,10 @@ use Rattle.board_words.proofs.StoringLaws.{put_more, put_done}
 use Rattle.board_words.proofs.put_table.Goals as goal
 
 pub loop-i-init : goal.loop-i-init
-loop-i-init c = (paste-zero c.args.words.now c.args.at (padded c.args.room (take c.args.n c.args.table.now)), zero-le, refl)
-
-pub word_or-requires : goal.word_or-requires
-word_or-requires c = c.requires.1
+loop-i-init c = (paste-zero c.args.words.now c.args.at (padded c.args.room (take c.args.n c.args.table.now)), refl)
 
 pub loop-i-preserved : goal.loop-i-preserved
-loop-i-preserved c = (put_more c.args.words.now c.args.table.now c.args.at c.args.room c.args.n c.loop-i.i c.loop-i.invariant.0 c.requires.0 c.requires.1 c.loop-i-test.true c.word_or.ensures, omega arith, simp length-set c.loop-i.invariant.2)
-
-pub shape_of-words : goal.shape_of-words
-shape_of-words c = cc
+loop-i-preserved c = (put_more c.args.words.now c.args.table.now c.args.at c.args.room c.args.n c.loop-i.i c.loop-i.invariant.0 c.requires.0 c.requires.1 c.loop-i-test.true c.word_or.ensures, simp length-set c.loop-i.invariant.1)
 
 pub returns : goal.returns
-returns c = put_done c.args.words.now (padded c.args.room (take c.args.n c.args.table.now)) c.args.at c.args.room c.loop-i.i c.loop-i.invariant.0 (omega arith) c.loop-i.invariant.1
+returns c = put_done c.args.words.now (padded c.args.room (take c.args.n c.args.table.now)) c.args.at c.args.room c.loop-i.i c.loop-i.invariant.0 (omega arith) (omega arith)

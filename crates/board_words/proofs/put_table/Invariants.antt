@@ -1,5 +1,4 @@
 -- `board_words::put_table` meets its contract. Assumes nothing.
-use Prim.Native.Nat.{◌-◌, ◌≤◌}
 use mathlib.Core.Path.{◌≡◌}
 use lib.ListN.{length, take}
 use lib.Seq.{paste}
@@ -7,7 +6,4 @@ use Rattle.board_words.specs.Layout.{padded}
 use Rattle.board_words.proofs.put_table.Given as goal
 
 abbrev pub invariant-loop-i : goal.invariant-loop-i
-invariant-loop-i l = (l.words ≡ paste l.initial.words l.at (padded l.room (take l.n l.table)) l.i) × (l.i ≤ l.room) × (length l.words ≡ length l.initial.words)
-
-abbrev pub decreases-loop-i : goal.decreases-loop-i
-decreases-loop-i l = l.room - l.i
+invariant-loop-i l = (l.words ≡ paste l.initial.words l.at (padded l.room (take l.n l.table)) l.i) × (length l.words ≡ length l.initial.words)

@@ -3,7 +3,6 @@ use native.Mathlib.Omega.{arith}
 use Prim.Native.Nat.{zero-le}
 use lib.ListN.{length-set}
 use Rattle.board_words.proofs.StoringLaws.{part_long, written1, written2, written3, written4, written5, written6, board_stored}
-use borrow.Author.Rules.{rules}
 use Rattle.memory.specs.Map as memory
 use Rattle.board_words.proofs.store_board.Goals as goal
 

@@ -54,9 +54,6 @@ decreases-whole l = 32 * (length l.s.now - l.t.start) + 15
 abbrev pub invariant-terms::braces-loop-m : goal.invariant-terms::braces-loop-m
 invariant-terms::braces-loop-m l = Gathering l.k l.s l.initial.u l.n l.d l.initial.w2 l.at l.m l.u l.nodes l.w2
 
-abbrev pub decreases-terms::braces-loop-m : goal.decreases-terms::braces-loop-m
-decreases-terms::braces-loop-m l = 4 - l.m
-
 abbrev pub invariant-conjunction-loop-found : goal.invariant-conjunction-loop-found
 invariant-conjunction-loop-found l = Growing (Chained conjunction_level) l.k l.s l.d l.initial.found l.initial.w2 l.found l.w2
 
@@ -87,8 +84,8 @@ invariant-sum-loop-found l = Growing (Chained sum_level) l.k l.s l.d l.initial.f
 abbrev pub decreases-sum-loop-found : goal.decreases-sum-loop-found
 decreases-sum-loop-found l = left_of l.s l.found
 
-abbrev pub invariant-whole-loop-next : goal.invariant-whole-loop-next
-invariant-whole-loop-next l = Waiting l.k l.s l.initial.u l.n l.d l.initial.w2 l.u l.nodes l.lets l.unread l.w2
+abbrev pub invariant-whole-loop-head : goal.invariant-whole-loop-head
+invariant-whole-loop-head l = Waiting l.k l.s l.initial.u l.n l.d l.initial.w2 l.u l.nodes l.lets l.unread l.w2
 
-abbrev pub decreases-whole-loop-next : goal.decreases-whole-loop-next
-decreases-whole-loop-next l = length l.s - l.u.start
+abbrev pub decreases-whole-loop-head : goal.decreases-whole-loop-head
+decreases-whole-loop-head l = length l.s - l.u.start

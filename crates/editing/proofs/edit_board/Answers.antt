@@ -9,10 +9,10 @@ pub replay_edit-requires : goal.replay_edit-requires
 replay_edit-requires c = search lying_accepted
 
 pub renew_board-requires : goal.renew_board-requires
-renew_board-requires c = record { least_words_in_bounds = (omega (arith, c.requires.least_words_in_bounds.0, (c.replay_edit.ensures []).kept.size), c.requires.least_words_in_bounds.1, c.requires.least_words_in_bounds.2, edit_known (c.replay_edit.ensures _) c.in-Is.is c.requires.known_accepted); row_lt_most_rows = (edit_row (c.replay_edit.ensures _) c.in-Is.is c.requires.known_accepted, c.requires.least_words_in_bounds.3) }
+renew_board-requires c = record { least_words_in_bounds = (omega (arith, c.requires.least_words_in_bounds.0, (c.replay_edit.ensures []).kept.size), c.requires.least_words_in_bounds.1, c.requires.least_words_in_bounds.2, edit_known (c.replay_edit.ensures _) c.in-Ok.is c.requires.known_accepted); row_lt_most_rows = (edit_row (c.replay_edit.ensures _) c.in-Ok.is c.requires.known_accepted, c.requires.least_words_in_bounds.3) }
 
-pub returns-in-Is : goal.returns-in-Is
-returns-in-Is c = edit_made (c.replay_edit.ensures _) c.in-Is.is c.renew_board.ensures
+pub returns-in-Ok : goal.returns-in-Ok
+returns-in-Ok c = edit_made (c.replay_edit.ensures _) c.in-Ok.is c.renew_board.ensures
 
-pub returns-in-Refused : goal.returns-in-Refused
-returns-in-Refused c = edit_refused (c.replay_edit.ensures _) c.in-Refused.is _ _
+pub returns-in-Err : goal.returns-in-Err
+returns-in-Err c = rw c.at.ensures (edit_refused (c.replay_edit.ensures _) c.in-Err.is _ _)

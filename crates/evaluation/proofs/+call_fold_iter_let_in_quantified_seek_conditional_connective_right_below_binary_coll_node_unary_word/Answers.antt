@@ -12,11 +12,12 @@ use Rattle.evaluation.specs.Evaluating.{operand_tree}
 use Rattle.evaluation.proofs.AssembleLaws.{gather_starts, assemble_done, assemble_early, assemble_again, assemble_over, kind_number}
 use Rattle.evaluation.specs.Traces.{no_place, a_place}
 use Rattle.evaluation.proofs.ConnectiveLaws.{connective_ends, connective_stops, connective_stuck, connective_decided, connective_known, connective_unknown, right_ends, right_stops, right_undefined, right_stuck, right_known, right_decided, right_undecided, decides_code}
-use Rattle.nodes.specs.Nodes.{word, tree_at}
+use Rattle.nodes.specs.Nodes.{tree_at}
 use Rattle.evaluation.proofs.FoldLaws.{fold_starts, fold_none, fold_early, fold_again}
 use Rattle.evaluation.proofs.LoopLaws.{seek_starts, seek_none, seek_blank, seek_early, seek_past, seek_stuck, seek_ends, seek_again}
 use Rattle.evaluation.proofs.+call_fold_iter_let_in_quantified_seek_conditional_connective_right_below_binary_coll_node_unary_word.Goals as goal
 use Rattle.evaluation.proofs.+call_fold_iter_let_in_quantified_seek_conditional_connective_right_below_binary_coll_node_unary_word.Goals.{walk::node-in-37-1, walk::node-in_default+else-form-lt7+else-form-lt13+then-form-lt23, walk::node-in-30-1, walk::node-in_default+else-form-lt7+then-form-lt13, walk::node-in_default+else-form-lt7+else-form-lt13+else-form-lt23+else-form-lt25+else-form-lt27+else-form-lt30+then-form-lt35}
+use Rattle.evaluation.proofs.+call_fold_iter_let_in_quantified_seek_conditional_connective_right_below_binary_coll_node_unary_word.Goals.{lazy::right-then-place-eq0-via-then-place-eq0, lazy::right-then-place-eq0-via-else-place-eq0+then-t-form}
 
 pub walk::below-returns-then-steps-ge-LIMIT : goal.walk::below-returns-then-steps-ge-LIMIT
 walk::below-returns-then-steps-ge-LIMIT t c = below_stop _ _ _ c.if-steps-ge-LIMIT.true
@@ -99,14 +100,14 @@ walk::coll-returns t c = assemble_done _ _ _ (c.wide-count.ensures ∙ c.node_wo
 pub lazy::conditional-returns-in_default : goal.lazy::conditional-returns-in_default
 lazy::conditional-returns-in_default t c = search conditional_first
 
-pub lazy::conditional-returns-then-t-eq1 : goal.lazy::conditional-returns-then-t-eq1
-lazy::conditional-returns-then-t-eq1 t c = search conditional_then
+pub lazy::conditional-returns-in-1 : goal.lazy::conditional-returns-in-1
+lazy::conditional-returns-in-1 t c = search conditional_then
 
-pub lazy::conditional-returns-then-t-eq0 : goal.lazy::conditional-returns-then-t-eq0
-lazy::conditional-returns-then-t-eq0 t c = search conditional_else
+pub lazy::conditional-returns-in-0 : goal.lazy::conditional-returns-in-0
+lazy::conditional-returns-in-0 t c = search conditional_else
 
-pub lazy::conditional-returns : goal.lazy::conditional-returns
-lazy::conditional-returns t c = search conditional_stuck
+pub lazy::conditional-returns-in_default-truth : goal.lazy::conditional-returns-in_default-truth
+lazy::conditional-returns-in_default-truth t c = search conditional_stuck
 
 pub lazy::connective-returns-then-t-gt1 : goal.lazy::connective-returns-then-t-gt1
 lazy::connective-returns-then-t-gt1 t c = search connective_stuck
@@ -280,10 +281,12 @@ pub lazy::right-returns-then-t-gt1 : goal.lazy::right-returns-then-t-gt1
 lazy::right-returns-then-t-gt1 t c = search right_stuck
 
 pub lazy::right-returns-then-place-eq0 : goal.lazy::right-returns-then-place-eq0
-lazy::right-returns-then-place-eq0 t c = search right_known
-
-pub lazy::right-returns-then-t-form : goal.lazy::right-returns-then-t-form
-lazy::right-returns-then-t-form t c = right_decided _ _ c.below-second.ensures c.in-Value.is c.truth-t.ensures c.if-t-gt1.false c.if-place-eq0.false (c.if-t-form.true ∙ decides_code c.args.form c.requires.and_le_form.0 c.requires.and_le_form.1)
+lazy::right-returns-then-place-eq0 t c =
+    elim c.then-place-eq0.branch [
+      | lazy::right-then-place-eq0-via-then-place-eq0 w ↦ right_known _ _ c.below-second.ensures c.in-Value.is c.truth-t.ensures c.if-t-gt1.false w.if-place-eq0.true
+      | lazy::right-then-place-eq0-via-else-place-eq0+then-t-form w ↦
+          right_decided _ _ c.below-second.ensures c.in-Value.is c.truth-t.ensures c.if-t-gt1.false w.if-place-eq0.false (w.if-t-form.true ∙ decides_code c.args.form c.requires.and_le_form.0 c.requires.and_le_form.1)
+    ]
 
 pub lazy::right-returns-else-t-form : goal.lazy::right-returns-else-t-form
 lazy::right-returns-else-t-form t c = right_undecided _ _ c.below-second.ensures c.in-Value.is c.truth-t.ensures c.if-t-gt1.false c.if-place-eq0.false c.requires.perhaps (λ e. c.if-t-form.false (e ∙ sym (decides_code c.args.form c.requires.and_le_form.0 c.requires.and_le_form.1)))

@@ -55,9 +55,6 @@ decreases-walk::word l = 5 * l.n + 4
 abbrev pub invariant-walk::coll-loop-k : goal.invariant-walk::coll-loop-k
 invariant-walk::coll-loop-k l = Gathering (ReadsWorld l.st l.tables l.nodes) l.nodes l.n (kind_of l.form) l.env l.sp l.left l.count l.initial.stack l.stack l.initial.s l.s l.end l.k
 
-abbrev pub decreases-walk::coll-loop-k : goal.decreases-walk::coll-loop-k
-decreases-walk::coll-loop-k l = l.count - l.k
-
 abbrev pub invariant-bind::fold-loop-p : goal.invariant-bind::fold-loop-p
 invariant-bind::fold-loop-p l = Folding (ReadsWorld l.st l.tables l.nodes) (variable (word l.nodes l.n 4)) (variable (word l.nodes l.n 5)) (operand_for l.nodes l.n 3) l.env l.sp (l.sp + l.la) l.lb l.initial.stack l.stack l.initial.s l.s l.p l.len
 

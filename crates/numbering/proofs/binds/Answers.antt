@@ -1,15 +1,15 @@
 -- `binds` meets its contract. Assumes nothing.
-use Rattle.numbering.proofs.Codes.{binds_let, binds_iter, binds_early, binds_range}
+use Rattle.numbering.proofs.Codes.{binds_one, binds_quantified, binds_early, binds_none}
 use Rattle.numbering.proofs.binds.Goals as goal
 
-pub returns-then-form-eq-LET_IN : goal.returns-then-form-eq-LET_IN
-returns-then-form-eq-LET_IN c = search binds_let
+pub returns-in-32 : goal.returns-in-32
+returns-in-32 c = search binds_one
 
-pub returns-then-form-eq-ITERATE : goal.returns-then-form-eq-ITERATE
-returns-then-form-eq-ITERATE c = search binds_iter
+pub returns-in-32-2 : goal.returns-in-32-2
+returns-in-32-2 c = search binds_quantified
 
-pub returns-then-form-lt-FOR_ALL : goal.returns-then-form-lt-FOR_ALL
-returns-then-form-lt-FOR_ALL c = search binds_early
+pub returns-in_default : goal.returns-in_default
+returns-in_default c = search (binds_early, binds_none)
 
-pub returns : goal.returns
-returns c = search binds_range
+pub returns-in_default-2 : goal.returns-in_default-2
+returns-in_default-2 c = search (binds_early, binds_none)

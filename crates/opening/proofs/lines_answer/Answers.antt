@@ -2,8 +2,8 @@
 use Rattle.opening.proofs.Lines.{lines_written, lines_short}
 use Rattle.opening.proofs.lines_answer.Goals as goal
 
-pub returns-in-Written : goal.returns-in-Written
-returns-in-Written c = search lines_written
+pub returns-in-Some : goal.returns-in-Some
+returns-in-Some c = search lines_written
 
-pub returns-in-Short : goal.returns-in-Short
-returns-in-Short c = search lines_short
+pub returns-in-None : goal.returns-in-None
+returns-in-None c = lines_short c.in-None.is (rw c.at.ensures at c.from.ensures)

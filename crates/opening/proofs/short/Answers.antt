@@ -1,12 +1,9 @@
 -- `short` meets its contract.
-use Rattle.opening.proofs.Answers.{short0, short1, short2}
+use Rattle.opening.proofs.Answers.{short01, short2}
 use Rattle.opening.proofs.short.Goals as goal
 
-pub returns-then-w0-lt-LEAST_WORDS : goal.returns-then-w0-lt-LEAST_WORDS
-returns-then-w0-lt-LEAST_WORDS c = short0 _ _ _ c.if-w0-lt-LEAST_WORDS.true
-
 pub returns-then-w1-lt-LEAST_WORDS : goal.returns-then-w1-lt-LEAST_WORDS
-returns-then-w1-lt-LEAST_WORDS c = search short1
+returns-then-w1-lt-LEAST_WORDS c = search short01
 
-pub returns : goal.returns
-returns c = search short2
+pub returns-else-w1-lt-LEAST_WORDS : goal.returns-else-w1-lt-LEAST_WORDS
+returns-else-w1-lt-LEAST_WORDS c = short2 _ _ _ c.if-w1-lt-LEAST_WORDS.false.0 c.if-w1-lt-LEAST_WORDS.false.1

@@ -5,5 +5,5 @@ use Rattle.reader.proofs.in_body.Goals as goal
 pub returns-then-kind-eq-NODE_LINE : goal.returns-then-kind-eq-NODE_LINE
 returns-then-kind-eq-NODE_LINE c = search kind_node
 
-pub returns : goal.returns
-returns c = search kind_other
+pub returns-else-kind-eq-NODE_LINE : goal.returns-else-kind-eq-NODE_LINE
+returns-else-kind-eq-NODE_LINE c = search kind_other

@@ -3,8 +3,8 @@ use mathlib.Core.Path.{sym, ap}
 use Rattle.reader.specs.Meanings.{placed_at}
 use Rattle.reader.proofs.placed.Goals as goal
 
-pub returns-in-Next : goal.returns-in-Next
-returns-in-Next c = ap (λ s. placed_at s c.args.k) (sym c.in-Next.is)
+pub returns-in-Ok : goal.returns-in-Ok
+returns-in-Ok c = ap (λ s. placed_at s c.args.k) (sym c.in-Ok.is)
 
-pub returns-in-Refused : goal.returns-in-Refused
-returns-in-Refused c = ap (λ s. placed_at s c.args.k) (sym c.in-Refused.is)
+pub returns-in-Err : goal.returns-in-Err
+returns-in-Err c = rw c.at.ensures (ap (λ s. placed_at s c.args.k) (sym c.in-Err.is))

@@ -17,4 +17,4 @@ pub returns-then-can_stand : goal.returns-then-can_stand
 returns-then-can_stand c = search renews
 
 pub returns : goal.returns
-returns c = search foreign
+returns c = rw c.at.ensures (search foreign)

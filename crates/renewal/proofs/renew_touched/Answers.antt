@@ -18,4 +18,4 @@ pub returns-then-place : goal.returns-then-place
 returns-then-place c = search renewed_written
 
 pub returns : goal.returns
-returns c = search renewed_short
+returns c = rw c.at.ensures (search renewed_short)

@@ -6,8 +6,8 @@ use Rattle.spelling.proofs.put_value.Goals as goal
 pub slice_bounds-put_next-end : goal.slice_bounds-put_next-end
 slice_bounds-put_next-end c = search length-take-le
 
-pub put_next-next-requires : goal.put_next-next-requires
-put_next-next-requires c = search stands_last
+pub put_next-requires : goal.put_next-requires
+put_next-requires c = search stands_last
 
 pub returns : goal.returns
-returns c v f e = (c.put_next-next.ensures v f (stands_last e)).bytes
+returns c v f e = (c.put_next.ensures v f (stands_last e)).bytes

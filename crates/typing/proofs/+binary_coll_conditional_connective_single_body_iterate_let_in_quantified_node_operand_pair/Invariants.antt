@@ -1,5 +1,5 @@
 -- The measures of the recursion: the node's number falls, and within a node the gate for operands stands below its callers.
-use Prim.Native.Nat.{◌+◌, ◌*◌, ◌-◌}
+use Prim.Native.Nat.{◌+◌, ◌*◌}
 use mathlib.Core.Path.{◌≡◌}
 use lib.ListN.{length}
 use Rattle.ocl.specs.Model.{Schema}
@@ -46,6 +46,3 @@ decreases-apply::single l = 16 * l.n + 10
 
 abbrev pub invariant-apply::coll-loop-i : goal.invariant-apply::coll-loop-i
 invariant-apply::coll-loop-i l = (length l.marks ≡ length l.initial.marks) × ((m : Schema) → ReadsRows l.parents l.tables l.rows m → Left m l.nodes l.n l.form l.count l.i (joined_type l.common) (env_of l.env) l.initial.marks l.marks)
-
-abbrev pub decreases-apply::coll-loop-i : goal.decreases-apply::coll-loop-i
-decreases-apply::coll-loop-i l = l.count - l.i

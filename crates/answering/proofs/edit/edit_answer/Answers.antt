@@ -5,10 +5,10 @@ use Rattle.answering.proofs.EditCalls.{edit_given, edit_stopped}
 use Rattle.answering.proofs.edit.edit_answer.Goals as goal
 
 pub edit_on-requires : goal.edit_on-requires
-edit_on-requires c = (still_lent c.requires.0 c.open_text.ensures, c.requires.1, known_on c.open_text.ensures c.in-Sheet.is)
+edit_on-requires c = (still_lent c.requires.0 c.open_text.ensures, c.requires.1, known_on c.open_text.ensures c.in-Ok.is)
 
-pub returns-in-Sheet : goal.returns-in-Sheet
-returns-in-Sheet c = search edit_given
+pub returns-in-Ok : goal.returns-in-Ok
+returns-in-Ok c = search edit_given
 
-pub returns-in-Refused : goal.returns-in-Refused
-returns-in-Refused c = search edit_stopped
+pub returns-in-Err : goal.returns-in-Err
+returns-in-Err c = search edit_stopped

@@ -2,8 +2,8 @@
 use Rattle.answering.proofs.EditCalls.{edit_written, edit_refused}
 use Rattle.answering.proofs.edit.edit_ended.Goals as goal
 
-pub returns-in-Written : goal.returns-in-Written
-returns-in-Written c = search edit_written
+pub returns-in-Ok : goal.returns-in-Ok
+returns-in-Ok c = search edit_written
 
-pub returns-in-Refused : goal.returns-in-Refused
-returns-in-Refused c = search edit_refused
+pub returns-in-Err : goal.returns-in-Err
+returns-in-Err c = search edit_refused

@@ -6,8 +6,8 @@ use Rattle.answering.proofs.evaluate.evaluate_answer.Goals as goal
 pub evaluate_on-requires : goal.evaluate_on-requires
 evaluate_on-requires c = (still_lent c.requires c.open_text.ensures, search known_on)
 
-pub returns-in-Sheet : goal.returns-in-Sheet
-returns-in-Sheet c = search leaves_on
+pub returns-in-Ok : goal.returns-in-Ok
+returns-in-Ok c = search leaves_on
 
-pub returns-in-Refused : goal.returns-in-Refused
-returns-in-Refused c = search leaves_stop
+pub returns-in-Err : goal.returns-in-Err
+returns-in-Err c = search leaves_stop

@@ -7,8 +7,8 @@ use Rattle.answering.proofs.origins.origins_answer.Goals as goal
 pub origins_on-requires : goal.origins_on-requires
 origins_on-requires c = (still_lent c.requires c.open_text.ensures, search known_on)
 
-pub returns-in-Sheet : goal.returns-in-Sheet
-returns-in-Sheet c = search origins_given
+pub returns-in-Ok : goal.returns-in-Ok
+returns-in-Ok c = search origins_given
 
-pub returns-in-Refused : goal.returns-in-Refused
-returns-in-Refused c = search origins_stopped
+pub returns-in-Err : goal.returns-in-Err
+returns-in-Err c = search origins_stopped

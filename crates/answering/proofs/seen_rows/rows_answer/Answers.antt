@@ -7,8 +7,8 @@ use Rattle.answering.proofs.seen_rows.rows_answer.Goals as goal
 pub rows_on-requires : goal.rows_on-requires
 rows_on-requires c = (still_lent c.requires c.open_text.ensures, search known_on)
 
-pub returns-in-Sheet : goal.returns-in-Sheet
-returns-in-Sheet c = search rows_given
+pub returns-in-Ok : goal.returns-in-Ok
+returns-in-Ok c = search rows_given
 
-pub returns-in-Refused : goal.returns-in-Refused
-returns-in-Refused c = search rows_stopped
+pub returns-in-Err : goal.returns-in-Err
+returns-in-Err c = search rows_stopped

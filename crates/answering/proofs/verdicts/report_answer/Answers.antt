@@ -7,8 +7,8 @@ use Rattle.answering.proofs.verdicts.report_answer.Goals as goal
 pub report_on-requires : goal.report_on-requires
 report_on-requires c = (still_lent c.requires c.open_text.ensures, search known_on)
 
-pub returns-in-Sheet : goal.returns-in-Sheet
-returns-in-Sheet c = search report_given
+pub returns-in-Ok : goal.returns-in-Ok
+returns-in-Ok c = search report_given
 
-pub returns-in-Refused : goal.returns-in-Refused
-returns-in-Refused c = search report_stopped
+pub returns-in-Err : goal.returns-in-Err
+returns-in-Err c = search report_stopped

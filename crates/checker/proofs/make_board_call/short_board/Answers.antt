@@ -5,5 +5,5 @@ use Rattle.checker.proofs.make_board_call.short_board.Goals as goal
 pub returns-then-short_lent : goal.returns-then-short_lent
 returns-then-short_lent c = search short_some
 
-pub returns : goal.returns
-returns c = search short_words_lem
+pub returns-else-short_lent : goal.returns-else-short_lent
+returns-else-short_lent c = search short_words_lem

@@ -1,9 +1,12 @@
 -- `row_line` meets its contract: one law for each refusal, and the row put into its tables.
-use mathlib.Core.Path.{sym, ◌∙◌}
+use borrow.Author.Rules.{rules}
+use mathlib.Core.Path.{◌≡◌, sym, ap, ◌∙◌}
+use Rattle.std.specs.Prelude.{Err}
+use Rattle.memory.specs.Refusals.{refusal_of}
 use Rattle.sheet.specs.Spelling.{read_type}
-use Rattle.tables.proofs.LineFields.{num_cut}
-use Rattle.declarations.proofs.TakenLaws.{unspelled, row_plain, spelled}
-use Rattle.types.proofs.Within.{read_bad, read_big, read_is}
+use Rattle.tables.proofs.LineFields.{num_cut, is_read, not_read}
+use Rattle.declarations.proofs.TakenLaws.{unspelled, row_plain, spelled, misread}
+use Rattle.types.proofs.Within.{read_is}
 use Rattle.declarations.proofs.RowFields.{row_count, row_number, row_class, row_name, row_type_lem, row_spelled, row_exact}
 use Rattle.declarations.proofs.RowLaws.{are_low, row_over, row_over_type}
 use Rattle.declarations.proofs.rows.row_line.Goals as goal
@@ -11,26 +14,57 @@ use Rattle.declarations.proofs.rows.row_line.Goals as goal
 pub returns-then-f-ne5 : goal.returns-then-f-ne5
 returns-then-f-ne5 c = search (unspelled, row_count)
 
-pub returns-in_default : goal.returns-in_default
-returns-in_default c = λ w1 k. unspelled c.args.st k c.args.w0.now w1 c.args.line.now (row_number c.requires.0 c.if-f-ne5.false c.field.ensures (sym c.in_default.is ∙ c.number.ensures))
+pub returns-in_err-n : goal.returns-in_err-n
+returns-in_err-n c =
+    let e : c.from_residual.result ≡ Err c.in_err-n.field-0.0 = search rules in
+    let x = not_read c.number.ensures c.in_err-n.ensures.value in
+    rw (e ∙ ap Err x.1) (λ w1 k. unspelled c.args.st k c.args.w0.now w1 c.args.line.now (row_number c.requires.0 c.if-f-ne5.false c.field.ensures x.0))
 
-pub returns-in_default-number : goal.returns-in_default-number
-returns-in_default-number c = λ w1 k. unspelled c.args.st k c.args.w0.now w1 c.args.line.now (row_class c.requires.0 c.if-f-ne5.false c.field.ensures c.field-2.ensures (sym c.in-Is.is ∙ c.number.ensures) (sym c.in_default-number.is ∙ c.number-2.ensures))
+pub returns-in_err-c : goal.returns-in_err-c
+returns-in_err-c c =
+    let e : c.from_residual-in_err-c.result ≡ Err c.in_err-c.field-0.0 = search rules in
+    let x = not_read c.number-2.ensures c.in_err-c.ensures.value in
+    rw (e ∙ ap Err x.1) (λ w1 k. unspelled c.args.st k c.args.w0.now w1 c.args.line.now
+    (row_class c.requires.0 c.if-f-ne5.false c.field.ensures c.field-2.ensures (is_read c.number.ensures c.in_ok-n.ensures.value) x.0))
 
-pub returns-in_default-number-2 : goal.returns-in_default-number-2
-returns-in_default-number-2 c = λ w1 k. unspelled c.args.st k c.args.w0.now w1 c.args.line.now (row_name c.requires.0 c.if-f-ne5.false c.field.ensures c.field-2.ensures (sym c.in-Is.is ∙ c.number.ensures) c.field-3.ensures (sym c.in-Is-number.is ∙ c.number-2.ensures) (sym c.in_default-number-2.is ∙ c.number-3.ensures))
+pub returns-in_err-name : goal.returns-in_err-name
+returns-in_err-name c =
+    let e : c.from_residual-in_err-name.result ≡ Err c.in_err-name.field-0.0 = search rules in
+    let x = not_read c.number-3.ensures c.in_err-name.ensures.value in
+    rw (e ∙ ap Err x.1) (λ w1 k. unspelled c.args.st k c.args.w0.now w1 c.args.line.now
+    (row_name c.requires.0 c.if-f-ne5.false c.field.ensures c.field-2.ensures (is_read c.number.ensures c.in_ok-n.ensures.value) c.field-3.ensures (is_read c.number-2.ensures c.in_ok-c.ensures.value) x.0))
+
+pub returns-in_err-t : goal.returns-in_err-t
+returns-in_err-t c =
+    let e : c.from_residual-in_err-t.result ≡ Err (refusal_of c.in_err-t.field-0.0) = search rules in
+    let n = is_read c.number.ensures c.in_ok-n.ensures.value in
+    let d = is_read c.number-2.ensures c.in_ok-c.ensures.value in
+    let m = is_read c.number-3.ensures c.in_ok-name.ensures.value in
+    rw e (λ w1 k. misread _ c.read_type.ensures c.in_err-t.was (row_plain _ _ _)
+    (row_type_lem c.requires.0 c.if-f-ne5.false c.field.ensures c.field-2.ensures n c.field-3.ensures d c.field-4.ensures m)
+    (λ t. row_spelled c.requires.0 c.if-f-ne5.false c.field.ensures c.field-2.ensures n c.field-3.ensures d c.field-4.ensures m)
+    (row_over_type _ _ _))
+
+pub returns-then-not-numbers_within : goal.returns-then-not-numbers_within
+returns-then-not-numbers_within c = λ w1 k.
+    let n = is_read c.number.ensures c.in_ok-n.ensures.value in
+    let d = is_read c.number-2.ensures c.in_ok-c.ensures.value in
+    let m = is_read c.number-3.ensures c.in_ok-name.ensures.value in
+    let t = read_is (read_type c.field-4.result.now) c.read_type.ensures c.in_ok-t.t c.in_ok-t.was in
+    spelled c.args.line.now (row_plain _ _ _ _)
+    (row_spelled c.requires.0 c.if-f-ne5.false c.field.ensures c.field-2.ensures n c.field-3.ensures d c.field-4.ensures m t.0)
+    (row_over c.args.st k c.args.w0.now w1 _ _ _ _ (num_cut _ n) (num_cut _ d) (num_cut _ m) (sym c.numbers_within.ensures ∙ search rules))
 
 pub put_row-requires : goal.put_row-requires
-put_row-requires c = (c.requires.1, c.requires.2, sym c.numbers_within.ensures ∙ c.if-numbers_within.true, (read_is (read_type c.field-4.result.now) c.read_type.ensures c.in-Is-read_type.t c.in-Is-read_type.is).1)
+put_row-requires c = (c.requires.1, c.requires.2, sym c.numbers_within.ensures ∙ search rules, (read_is (read_type c.field-4.result.now) c.read_type.ensures c.in_ok-t.t c.in_ok-t.was).1)
 
-pub returns-in-Bad : goal.returns-in-Bad
-returns-in-Bad c = λ w1 k. unspelled c.args.st k c.args.w0.now w1 c.args.line.now (row_type_lem c.requires.0 c.if-f-ne5.false c.field.ensures c.field-2.ensures (sym c.in-Is.is ∙ c.number.ensures) c.field-3.ensures (sym c.in-Is-number.is ∙ c.number-2.ensures) c.field-4.ensures (sym c.in-Is-number-2.is ∙ c.number-3.ensures) (read_bad (read_type c.field-4.result.now) c.read_type.ensures c.in-Bad.is))
-
-pub returns-in-Big : goal.returns-in-Big
-returns-in-Big c = λ w1 k. let t = (read_big (read_type c.field-4.result.now) c.read_type.ensures c.in-Big.is) in spelled c.args.line.now (row_plain _ _ _ _) (row_spelled c.requires.0 c.if-f-ne5.false c.field.ensures c.field-2.ensures (sym c.in-Is.is ∙ c.number.ensures) c.field-3.ensures (sym c.in-Is-number.is ∙ c.number-2.ensures) c.field-4.ensures (sym c.in-Is-number-2.is ∙ c.number-3.ensures) t.1) (row_over_type c.args.st k c.args.w0.now w1 _ _ _ _ t.2)
-
-pub returns-then-numbers_within : goal.returns-then-numbers_within
-returns-then-numbers_within c = λ w1 k. let t = (read_is (read_type c.field-4.result.now) c.read_type.ensures c.in-Is-read_type.t c.in-Is-read_type.is) in let low = (are_low c.in-Is.n c.in-Is-number.c c.in-Is-number-2.name (sym c.numbers_within.ensures ∙ c.if-numbers_within.true)) in spelled c.args.line.now (row_plain _ _ _ _) (row_exact c.requires.0 c.if-f-ne5.false c.field.ensures c.field-2.ensures (sym c.in-Is.is ∙ c.number.ensures) c.field-3.ensures (sym c.in-Is-number.is ∙ c.number-2.ensures) c.field-4.ensures (sym c.in-Is-number-2.is ∙ c.number-3.ensures) t.0 low.number low.class low.named) (c.put_row.ensures w1 k)
-
-pub returns-else-numbers_within : goal.returns-else-numbers_within
-returns-else-numbers_within c = λ w1 k. let t = (read_is (read_type c.field-4.result.now) c.read_type.ensures c.in-Is-read_type.t c.in-Is-read_type.is) in spelled c.args.line.now (row_plain _ _ _ _) (row_spelled c.requires.0 c.if-f-ne5.false c.field.ensures c.field-2.ensures (sym c.in-Is.is ∙ c.number.ensures) c.field-3.ensures (sym c.in-Is-number.is ∙ c.number-2.ensures) c.field-4.ensures (sym c.in-Is-number-2.is ∙ c.number-3.ensures) t.0) (row_over c.args.st k c.args.w0.now w1 _ _ _ _ (num_cut _ (sym c.in-Is.is ∙ c.number.ensures)) (num_cut _ (sym c.in-Is-number.is ∙ c.number-2.ensures)) (num_cut _ (sym c.in-Is-number-2.is ∙ c.number-3.ensures)) (sym c.numbers_within.ensures ∙ c.if-numbers_within.false))
+pub returns : goal.returns
+returns c = λ w1 k.
+    let n = is_read c.number.ensures c.in_ok-n.ensures.value in
+    let d = is_read c.number-2.ensures c.in_ok-c.ensures.value in
+    let m = is_read c.number-3.ensures c.in_ok-name.ensures.value in
+    let t = read_is (read_type c.field-4.result.now) c.read_type.ensures c.in_ok-t.t c.in_ok-t.was in
+    let low = are_low c.in_ok-n.n c.in_ok-c.c c.in_ok-name.name (sym c.numbers_within.ensures ∙ search rules) in
+    spelled c.args.line.now (row_plain _ _ _ _)
+    (row_exact c.requires.0 c.if-f-ne5.false c.field.ensures c.field-2.ensures n c.field-3.ensures d c.field-4.ensures m t.0 low.number low.class low.named)
+    (c.put_row.ensures w1 k)

@@ -7,6 +7,6 @@ pub returns-then-first-eq0 : goal.returns-then-first-eq0
 unfolding earlier_of
 returns-then-first-eq0 c = rw (eq-eqb _ _ c.if-first-eq0.true)
 
-pub returns : goal.returns
+pub returns-else-first-eq0 : goal.returns-else-first-eq0
 unfolding earlier_of
-returns c = rw (ne_eqb _ _ c.if-first-eq0.false)
+returns-else-first-eq0 c = rw (ne_eqb _ _ c.if-first-eq0.false)

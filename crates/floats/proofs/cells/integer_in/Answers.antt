@@ -6,14 +6,14 @@ use Rattle.floats.proofs.cells.integer_in.Goals as goal
 pub overflow_sub-result : goal.overflow_sub-result
 overflow_sub-result c = search minus_room
 
-pub returns-in-Is : goal.returns-in-Is
-returns-in-Is c = search below_int
+pub returns-in-Some : goal.returns-in-Some
+returns-in-Some c = search below_int
 
 pub overflow_add-result : goal.overflow_add-result
 overflow_add-result c = search plus_room
 
-pub returns-in-Is-w : goal.returns-in-Is-w
-returns-in-Is-w c = search above_int
+pub returns-in-Some-whole : goal.returns-in-Some-whole
+returns-in-Some-whole c = search above_int
 
 pub returns-in_default : goal.returns-in_default
 returns-in_default c = search below_no
@@ -21,8 +21,8 @@ returns-in_default c = search below_no
 pub returns-else-size-le-RANGE : goal.returns-else-size-le-RANGE
 returns-else-size-le-RANGE c = search below_far
 
-pub returns-in_default-w : goal.returns-in_default-w
-returns-in_default-w c = search above_no
+pub returns-in_default-whole : goal.returns-in_default-whole
+returns-in_default-whole c = search above_no
 
 pub returns-else-size-lt-RANGE : goal.returns-else-size-lt-RANGE
 returns-else-size-lt-RANGE c = search above_far

@@ -2,13 +2,14 @@
 use native.Mathlib.Omega.{arith}
 use Rattle.reals.proofs.Bits.{no_nan}
 use Rattle.floats.proofs.Storing.{below_low, above_low, bits_finite, number_below, number_above, word_low, word_high}
+use Rattle.floats.proofs.cells.number_of.Goals.{then-word-le-BELOW-via-then-word-le-BELOW, then-word-le-BELOW-via-else-word-le-BELOW+then-word-ge-ABOVE}
 use Rattle.floats.proofs.cells.number_of.Goals as goal
 
 pub returns-then-word-le-BELOW : goal.returns-then-word-le-BELOW
-returns-then-word-le-BELOW c = search word_low
-
-pub returns-then-word-ge-ABOVE : goal.returns-then-word-ge-ABOVE
-returns-then-word-ge-ABOVE c = search word_high
+returns-then-word-le-BELOW c = elim c.then-word-le-BELOW.branch [
+  | then-word-le-BELOW-via-then-word-le-BELOW w ↦ search word_low
+  | then-word-le-BELOW-via-else-word-le-BELOW+then-word-ge-ABOVE w ↦ search word_high
+]
 
 pub float_from_bits-word : goal.float_from_bits-word
 float_from_bits-word c = no_nan _ (below_low _ (omega arith))

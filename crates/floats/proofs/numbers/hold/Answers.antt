@@ -9,14 +9,14 @@ float_to_bits-bits c = search finite_number
 pub overflow_add-result : goal.overflow_add-result
 overflow_add-result c = search plus_room
 
-pub returns-in-Is : goal.returns-in-Is
-returns-in-Is c = search plus_int
+pub returns-in-Some : goal.returns-in-Some
+returns-in-Some c = search plus_int
 
 pub overflow_sub-result : goal.overflow_sub-result
 overflow_sub-result c = search minus_room
 
-pub returns-in-Is-w : goal.returns-in-Is-w
-returns-in-Is-w c = search minus_int
+pub returns-in-Some-whole : goal.returns-in-Some-whole
+returns-in-Some-whole c = search minus_int
 
 pub returns-in_default : goal.returns-in_default
 returns-in_default c = search plus_no
@@ -24,8 +24,8 @@ returns-in_default c = search plus_no
 pub returns-else-bits-lt-RANGE : goal.returns-else-bits-lt-RANGE
 returns-else-bits-lt-RANGE c = search plus_far
 
-pub returns-in_default-w : goal.returns-in_default-w
-returns-in_default-w c = search minus_no
+pub returns-in_default-whole : goal.returns-in_default-whole
+returns-in_default-whole c = search minus_no
 
 pub returns-else-size-le-RANGE : goal.returns-else-size-le-RANGE
 returns-else-size-le-RANGE c = search minus_far

@@ -3,10 +3,10 @@ use Rattle.floats.proofs.Reading.{value_decimal, value_letter, value_low, value_
 use Rattle.floats.proofs.spelling.digit_of.Goals as goal
 
 pub returns-in-48-to-57 : goal.returns-in-48-to-57
-returns-in-48-to-57 c = search value_decimal
+returns-in-48-to-57 c = rw c.from.ensures (search value_decimal)
 
 pub returns-in-97-to-102 : goal.returns-in-97-to-102
-returns-in-97-to-102 c = search value_letter
+returns-in-97-to-102 c = rw c.from-in-97-to-102.ensures (search value_letter)
 
 pub returns-in_default : goal.returns-in_default
 returns-in_default c = search value_low

@@ -8,8 +8,8 @@ returns-then-without_sign-ge-INFINITE c = search bits_over
 pub float_from_bits-x : goal.float_from_bits-x
 float_from_bits-x c = search bits_number
 
-pub hold-n-requires : goal.hold-n-requires
-hold-n-requires c = search bits_small
+pub hold-requires : goal.hold-requires
+hold-requires c = search bits_small
 
 pub returns-in-Integer : goal.returns-in-Integer
 returns-in-Integer c = search bits_int

@@ -5,6 +5,3 @@ use Rattle.floats.proofs.spelling.spell_real.Given as goal
 
 abbrev pub invariant-loop-k : goal.invariant-loop-k
 invariant-loop-k l = Behind (to_bits binary64 l.x) l.text l.rest l.k
-
-abbrev pub decreases-loop-k : goal.decreases-loop-k
-decreases-loop-k l = l.k

@@ -10,4 +10,4 @@ returns-in_default c = rw (variable_none _ (sym c.in_default.is ∙ c.label.ensu
 
 pub returns : goal.returns
 unfolding variable_word
-returns c = variable_one _ (sym c.in-Is.is ∙ c.label.ensures) c.built.ensures
+returns c = variable_one _ (sym c.in-Some.is ∙ c.label.ensures) c.built.ensures

@@ -2,8 +2,5 @@
 use Rattle.importer.proofs.CloseLaws.{Closing}
 use Rattle.importer.proofs.lets.close_lets.Given as goal
 
-abbrev pub invariant-loop-d : goal.invariant-loop-d
-invariant-loop-d l = Closing l.k l.from l.nodes l.lets l.initial.w2 l.n l.d l.w2
-
-abbrev pub decreases-loop-d : goal.decreases-loop-d
-decreases-loop-d l = l.d
+abbrev pub invariant-loop-i : goal.invariant-loop-i
+invariant-loop-i l = Closing l.k l.from l.nodes l.lets l.initial.w2 l.n l.i l.w2

@@ -1,15 +1,11 @@
 -- `let_head` meets its contract.
-use Rattle.importer.proofs.HeadLaws.{after_further, head_none, head_broken, head_one}
+use Rattle.std.specs.Prelude.{◌≡◌, None}
+use Rattle.std.proofs.Common.{rules}
+use Rattle.importer.proofs.HeadLaws.{head_broken, head_one}
 use Rattle.importer.proofs.lets.let_head.Goals as goal
 
-pub returns-in_default : goal.returns-in_default
-returns-in_default c = search head_none
-
-pub binding-named-requires : goal.binding-named-requires
-binding-named-requires c = (after_further c.after-begun.ensures c.in-At.is).ahead
-
-pub returns-in_default-named : goal.returns-in_default-named
-returns-in_default-named c = search head_broken
+pub returns-in_err-n : goal.returns-in_err-n
+returns-in_err-n c = let e : c.from_residual.result ≡ None = search rules in rw e (head_broken c.binding.ensures c.in_err-n.was)
 
 pub returns : goal.returns
-returns c = search head_one
+returns c = head_one c.binding.ensures c.in_ok-n.was c.open_let.ensures

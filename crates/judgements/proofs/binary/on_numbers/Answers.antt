@@ -9,4 +9,4 @@ pub returns-then-both_under-2 : goal.returns-then-both_under-2
 returns-then-both_under-2 c = search by_reals
 
 pub returns : goal.returns
-returns c = search no_numbers
+returns c = search (no_numbers, c.at.ensures)

@@ -6,4 +6,4 @@ pub returns-then-env-i : goal.returns-then-env-i
 returns-then-env-i c = search is_bound
 
 pub returns : goal.returns
-returns c = is_free _ _ _ c.if-env-i.false
+returns c = rw c.at.ensures (is_free _ _ _ c.if-env-i.false)

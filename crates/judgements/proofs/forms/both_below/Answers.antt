@@ -6,4 +6,4 @@ pub returns-then-both_under : goal.returns-then-both_under
 returns-then-both_under c = search both_yes
 
 pub returns : goal.returns
-returns c = search both_no
+returns c = search (both_no, c.at.ensures)

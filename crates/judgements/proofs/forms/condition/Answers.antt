@@ -7,4 +7,4 @@ pub returns-then-subtype : goal.returns-then-subtype
 returns-then-subtype c = λ m e. condition_yes m _ e _ _ c.plain-then-subtype.ensures c.plain.ensures (sym c.if-subtype.true ∙ c.subtype.ensures)
 
 pub returns : goal.returns
-returns c = λ m e. condition_no m _ e _ _ c.plain.ensures (sym c.if-subtype.false ∙ c.subtype.ensures)
+returns c = λ m e. rw c.at.ensures (condition_no m _ e _ _ c.plain.ensures (sym c.if-subtype.false ∙ c.subtype.ensures))

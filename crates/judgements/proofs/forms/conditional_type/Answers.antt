@@ -7,4 +7,4 @@ pub returns-then-subtype : goal.returns-then-subtype
 returns-then-subtype c = λ m e. choice_yes m _ e _ _ _ _ c.plain.ensures (sym c.if-subtype.true ∙ c.subtype.ensures) (c.common_type.ensures m e)
 
 pub returns : goal.returns
-returns c = λ m e. choice_no m _ e _ _ _ _ c.plain.ensures (sym c.if-subtype.false ∙ c.subtype.ensures)
+returns c = λ m e. rw c.at.ensures (choice_no m _ e _ _ _ _ c.plain.ensures (sym c.if-subtype.false ∙ c.subtype.ensures))

@@ -6,4 +6,4 @@ pub returns-then-depth-le2 : goal.returns-then-depth-le2
 returns-then-depth-le2 c = search wrap_yes
 
 pub returns : goal.returns
-returns c = search wrap_no
+returns c = search (wrap_no, c.at.ensures)

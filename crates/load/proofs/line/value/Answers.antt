@@ -1,14 +1,13 @@
 -- `value` meets its contract. Assumes nothing.
-use mathlib.Core.Path.{sym, ap, ◌∙◌}
-use Rattle.text.specs.declared.numbers.Num.TheVariants.{Is}
-use Rattle.load.proofs.Lines.{num_of, line_value}
+use borrow.Author.Rules.{rules}
+use Rattle.load.proofs.Lines.{line_value}
 use Rattle.load.proofs.line.value.Goals as goal
 
-pub returns-in-Number : goal.returns-in-Number
-returns-in-Number c = line_value (ap Is c.at_most.ensures ∙ ap num_of (sym c.in-Number.is))
+pub returns-in_err-line : goal.returns-in_err-line
+returns-in_err-line c = line_value (search rules)
 
-pub returns-in-Empty : goal.returns-in-Empty
-returns-in-Empty c = line_value (ap num_of (sym c.in-Empty.is))
+pub returns-in-None : goal.returns-in-None
+returns-in-None c = line_value (search rules)
 
-pub returns-in-Bad : goal.returns-in-Bad
-returns-in-Bad c = line_value (ap num_of (sym c.in-Bad.is))
+pub returns-in-Some : goal.returns-in-Some
+returns-in-Some c = line_value (search rules)

@@ -1,10 +1,9 @@
 -- `line_number` meets its contract. Assumes nothing.
-use Rattle.load.specs.Tally.{with_ring}
 use Rattle.load.proofs.Steps.{number_first, number_length}
 use Rattle.load.proofs.reader.line_number.Goals as goal
 
 pub returns-then-t-eq0 : goal.returns-then-t-eq0
-returns-then-t-eq0 c = search (number_first, with_ring)
+returns-then-t-eq0 c = search number_first
 
 pub returns : goal.returns
-returns c = search (number_length, with_ring)
+returns c = search number_length

@@ -1,12 +1,7 @@
 -- `shift_left` meets its contract. Assumes nothing.
-use Rattle.moves.proofs.ShiftLaws.{shifted_none, shifted_next, shifted_all}
+use native.Mathlib.Omega.{arith}
+use Rattle.moves.proofs.ShiftLaws.{moved_bytes}
 use Rattle.moves.proofs.shifted.shift_left.Goals as goal
 
-pub loop-i-init : goal.loop-i-init
-loop-i-init c = search shifted_none
-
-pub loop-i-preserved : goal.loop-i-preserved
-loop-i-preserved c = search shifted_next
-
 pub returns : goal.returns
-returns c = search shifted_all
+returns c = moved_bytes c.args.from c.args.to c.args.n c.args.out.now (omega arith) c.copy_within.ensures.after

@@ -1,12 +1,7 @@
 -- `shift_right` meets its contract. Assumes nothing.
-use Rattle.moves.proofs.ShiftLaws.{moved_none, moved_next, moved_all}
+use native.Mathlib.Omega.{arith}
+use Rattle.moves.proofs.ShiftLaws.{moved_bytes}
 use Rattle.moves.proofs.shifted.shift_right.Goals as goal
 
-pub loop-i-init : goal.loop-i-init
-loop-i-init c = search moved_none
-
-pub loop-i-preserved : goal.loop-i-preserved
-loop-i-preserved c = search moved_next
-
 pub returns : goal.returns
-returns c = search moved_all
+returns c = moved_bytes c.args.from c.args.to c.args.n c.args.out.now (omega arith) c.copy_within.ensures.after

@@ -5,5 +5,5 @@ use Rattle.numbering.proofs.forms.enters.Goals as goal
 pub returns-then-form-eq-LET_IN : goal.returns-then-form-eq-LET_IN
 returns-then-form-eq-LET_IN c = search enters_let
 
-pub returns : goal.returns
-returns c = search enters_code
+pub returns-else-form-eq-LET_IN : goal.returns-else-form-eq-LET_IN
+returns-else-form-eq-LET_IN c = search enters_code

@@ -1,12 +1,15 @@
 -- `looks` meets its contract. Assumes nothing.
-use Rattle.numbering.proofs.Codes.{looks_collect, looks_early, looks_range}
+use Rattle.numbering.proofs.Codes.{looks_collect, looks_between, looks_early, looks_late}
 use Rattle.numbering.proofs.forms.looks.Goals as goal
 
-pub returns-then-form-eq-OF_MEMBERS : goal.returns-then-form-eq-OF_MEMBERS
-returns-then-form-eq-OF_MEMBERS c = search looks_collect
+pub returns-in-34 : goal.returns-in-34
+returns-in-34 c = search looks_collect
 
-pub returns-then-form-lt-INCLUDING : goal.returns-then-form-lt-INCLUDING
-returns-then-form-lt-INCLUDING c = search looks_early
+pub returns-in-34-2 : goal.returns-in-34-2
+returns-in-34-2 c = search looks_between
 
-pub returns : goal.returns
-returns c = search looks_range
+pub returns-in_default : goal.returns-in_default
+returns-in_default c = search (looks_early, looks_late)
+
+pub returns-in_default-2 : goal.returns-in_default-2
+returns-in_default-2 c = search (looks_early, looks_late)

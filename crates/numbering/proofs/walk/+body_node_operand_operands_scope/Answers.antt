@@ -5,16 +5,16 @@ use mathlib.Core.Path.{refl}
 use Rattle.numbering.proofs.walk.+body_node_operand_operands_scope.Goals as goal
 
 pub body-returns-in_default : goal.body-returns-in_default
-body-returns-in_default t c = body_refused _ _ _ _ _ _ _ _ _ c.source_type-source.ensures.0 c.in_default.is
+body-returns-in_default t c = body_refused _ _ _ _ _ _ _ _ _ c.source_type.ensures.0 c.in_default.is
 
 pub body-operand-requires : goal.body-operand-requires
-body-operand-requires t c = omega (arith, c, c.source_type-source, c.body_operand-k)
+body-operand-requires t c = omega (arith, c, c.source_type, c.body_operand-k)
 
 pub body-returns-then-enters : goal.body-returns-then-enters
-body-returns-then-enters t c = body_found _ _ _ _ _ _ _ _ _ c.source_type-source.ensures.0 c.in-Is.is c.enters.ensures _ c.if-enters.true c.inner_env-inner.ensures c.body_operand-k.ensures c.operand.ensures
+body-returns-then-enters t c = body_found _ _ _ _ _ _ _ _ _ c.source_type.ensures.0 c.in-Ok.is c.enters.ensures _ c.if-enters.true c.inner_env-inner.ensures c.body_operand-k.ensures c.operand.ensures
 
 pub body-returns : goal.body-returns
-body-returns t c = body_passed _ _ _ _ _ _ _ _ _ c.source_type-source.ensures.0 c.in-Is.is c.enters.ensures c.if-enters.false
+body-returns t c = body_passed _ _ _ _ _ _ _ _ _ c.source_type.ensures.0 c.in-Ok.is c.enters.ensures c.if-enters.false
 
 pub node-returns : goal.node-returns
 node-returns t c = (node_found _ _ _ _ _ _ _ _ c.node_word-form.ensures c.operand_count-count.ensures c.operands-outer.ensures c.scope-inner.ensures c.own.ensures.0, search rules)

@@ -1,5 +1,5 @@
 -- The measures of the recursion: the node's number falls, and within a node the gate for operands stands below its callers.
-use Prim.Native.Nat.{◌+◌, ◌*◌, ◌-◌}
+use Prim.Native.Nat.{◌+◌, ◌*◌}
 use mathlib.Core.Path.{◌≡◌}
 use lib.ListN.{length}
 use Rattle.numbering.proofs.Findings.{Left}
@@ -22,6 +22,3 @@ decreases-scope l = 8 * l.n + 2
 
 abbrev pub invariant-operands-loop-i : goal.invariant-operands-loop-i
 invariant-operands-loop-i l = (length l.marks ≡ length l.initial.marks) × Left l.nodes l.least l.parents l.tables l.rows l.n l.env l.count l.best l.i l.found
-
-abbrev pub decreases-operands-loop-i : goal.decreases-operands-loop-i
-decreases-operands-loop-i l = l.count - l.i

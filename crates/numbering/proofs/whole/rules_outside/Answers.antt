@@ -14,7 +14,7 @@ pub root_outside-best-requires : goal.root_outside-best-requires
 root_outside-best-requires c = search (low_root, rules)
 
 pub loop-r-preserved : goal.loop-r-preserved
-loop-r-preserved c = one_gone _ c.loop-r.invariant c.loop-r-test.true (low_root c.requires.rules_le_most_rules.1 c.loop-r-test.true c.wide-rules.ensures c.wide-root.ensures) c.wide-root.ensures refl c.root_outside-best.ensures
+loop-r-preserved c = one_gone _ c.loop-r.invariant c.loop-r-test.true (low_root c.requires.rules_le_most_rules.1 c.loop-r-test.true c.wide-r-end.ensures c.wide-root.ensures) c.wide-root.ensures refl c.root_outside-best.ensures
 
 pub returns : goal.returns
 returns c = search all_gone

@@ -7,10 +7,10 @@ pub returns-in_default : goal.returns-in_default
 returns-in_default c = search attribute_none
 
 pub bring-requires : goal.bring-requires
-bring-requires c = omega (arith, slot_within _ _ _ _ c.row_slot.ensures c.in-At.is)
+bring-requires c = omega (arith, slot_within _ _ _ _ c.row_slot.ensures c.in-Some.is)
 
-pub returns-in-At : goal.returns-in-At
-returns-in-At c = search attribute_some
+pub returns-in-Some : goal.returns-in-Some
+returns-in-Some c = search attribute_some
 
 pub returns-else-has_row : goal.returns-else-has_row
 returns-else-has_row c = search attribute_other

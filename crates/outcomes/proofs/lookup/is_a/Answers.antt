@@ -1,14 +1,14 @@
--- `operations::lookup::is_a` meets its contract. Assumes nothing.
-use mathlib.Core.Path.{◌≡◌, refl, ap}
-use Prim.Native.Nat.{◌-◌, ℕ, ◌+◌}
-use native.Mathlib.Omega.{arith}
+-- `is_a` meets its contract. Assumes nothing.
+use mathlib.Core.Path.{refl, ap}
+use Prim.Native.Nat.{ℕ, ◌+◌}
 use lib.ListN.{take}
+use borrow.Author.Tests.{le-ltb}
 use Rattle.memory.specs.Map as memory
 use Rattle.outcomes.proofs.Lookups.{no_object, object_is}
 use Rattle.outcomes.proofs.lookup.is_a.Goals as goal
 
-pub returns-then-st-o : goal.returns-then-st-o
-returns-then-st-o c = no_object c.if-st-o.true
+pub returns-then-o-st : goal.returns-then-o-st
+returns-then-o-st c = object_is c.if-o-st.true (ap (λ (n : ℕ). memory.objects + n) c.wide-then-o-st.ensures) refl (ap (λ (n : ℕ). take n c.args.tables.now) c.wide.ensures) c.class_below.ensures
 
-pub returns : goal.returns
-returns c = let e : c.wide-classes.result - 0 ≡ c.args.st.classes = omega (arith, c.wide-classes.ensures) in object_is c.if-st-o.false (ap (λ (n : ℕ). memory.objects + n) c.wide-at.ensures) refl (ap (λ (n : ℕ). take n c.args.tables.now) e) c.class_below.ensures
+pub returns-else-o-st : goal.returns-else-o-st
+returns-else-o-st c = rw (le-ltb _ _ c.if-o-st.false) (no_object c.if-o-st.false)

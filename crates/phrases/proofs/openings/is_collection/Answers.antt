@@ -1,9 +1,16 @@
 -- `is_collection` meets its contract. Assumes nothing.
-use Rattle.phrases.proofs.OpeningLaws.{below_kinds, in_kinds}
+use Rattle.std.proofs.Common.{rules, tests}
+use Rattle.phrases.specs.Forms.{is_collection}
 use Rattle.phrases.proofs.openings.is_collection.Goals as goal
 
-pub returns-then-code-lt-SET : goal.returns-then-code-lt-SET
-returns-then-code-lt-SET c = search below_kinds
+pub returns-in-27-to-29 : goal.returns-in-27-to-29
+unfolding is_collection
+returns-in-27-to-29 c = search (tests, rules)
 
-pub returns : goal.returns
-returns c = search in_kinds
+pub returns-in_default : goal.returns-in_default
+unfolding is_collection
+returns-in_default c = search (tests, rules)
+
+pub returns-in_default-2 : goal.returns-in_default-2
+unfolding is_collection
+returns-in_default-2 c = search (tests, rules)

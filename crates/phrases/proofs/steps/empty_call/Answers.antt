@@ -10,4 +10,4 @@ pub closing-requires : goal.closing-requires
 closing-requires c = search came_ahead
 
 pub returns : goal.returns
-returns c = λ f k. opened c.after-opened.ensures f c.in-At.is (c.closing.ensures f k)
+returns c = λ f k. opened c.after-opened.ensures f c.in-Some.is (c.closing.ensures f k)

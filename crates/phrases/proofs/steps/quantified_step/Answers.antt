@@ -6,4 +6,4 @@ pub returns-in_default : goal.returns-in_default
 returns-in_default c = λ q k. no_variable c.labelled_before-variable.ensures q k c.in_default.is
 
 pub returns : goal.returns
-returns c = λ q k. variable_bar c.labelled_before-variable.ensures q k c.in-Is.is
+returns c = λ q k. variable_bar c.labelled_before-variable.ensures q k c.in-Some.is

@@ -1,12 +1,17 @@
 -- `is_bad` meets its contract. Assumes nothing.
-use Rattle.phrases.proofs.TypeLaws.{bad_is, big_is_not, type_is_not}
+use Rattle.std.proofs.Common.{rules}
+use Rattle.types.specs.Reading.{type_field}
+use Rattle.phrases.specs.Meanings.{is_bad}
 use Rattle.phrases.proofs.typed.is_bad.Goals as goal
 
-pub returns-in-Bad : goal.returns-in-Bad
-returns-in-Bad c = search bad_is
+pub returns-in-Err-Malformed : goal.returns-in-Err-Malformed
+unfolding is_bad type_field
+returns-in-Err-Malformed c = search rules
 
-pub returns-in-Big : goal.returns-in-Big
-returns-in-Big c = search big_is_not
+pub returns-in_default : goal.returns-in_default
+unfolding is_bad type_field
+returns-in_default c = search rules
 
-pub returns-in-Is : goal.returns-in-Is
-returns-in-Is c = search type_is_not
+pub returns-in_default-2 : goal.returns-in_default-2
+unfolding is_bad type_field
+returns-in_default-2 c = search rules

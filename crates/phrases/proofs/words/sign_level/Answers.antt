@@ -1,27 +1,36 @@
 -- `sign_level` meets its contract. Assumes nothing.
-use Rattle.phrases.proofs.SignLaws.{or_level, and_level, below_level, comparison_level, sum_level, product_level, over_level, no_level}
+use Rattle.std.proofs.Common.{rules, tests}
+use Rattle.phrases.specs.Forms.{sign_level}
 use Rattle.phrases.proofs.words.sign_level.Goals as goal
 
-pub returns-then-code-eq-OR : goal.returns-then-code-eq-OR
-returns-then-code-eq-OR c = search or_level
+pub returns-in-24 : goal.returns-in-24
+unfolding sign_level
+returns-in-24 c = search (tests, rules)
 
-pub returns-then-code-eq-AND : goal.returns-then-code-eq-AND
-returns-then-code-eq-AND c = search and_level
+pub returns-in-23 : goal.returns-in-23
+unfolding sign_level
+returns-in-23 c = search (tests, rules)
 
-pub returns-then-code-lt-EQUAL : goal.returns-then-code-lt-EQUAL
-returns-then-code-lt-EQUAL c = search below_level
+pub returns-in-13-to-14 : goal.returns-in-13-to-14
+unfolding sign_level
+returns-in-13-to-14 c = search (tests, rules)
 
-pub returns-then-code-lt-PLUS : goal.returns-then-code-lt-PLUS
-returns-then-code-lt-PLUS c = search comparison_level
+pub returns-in-15-to-16 : goal.returns-in-15-to-16
+unfolding sign_level
+returns-in-15-to-16 c = search (tests, rules)
 
-pub returns-then-code-lt-TIMES : goal.returns-then-code-lt-TIMES
-returns-then-code-lt-TIMES c = search sum_level
+pub returns-in_default : goal.returns-in_default
+unfolding sign_level
+returns-in_default c = search (tests, rules)
 
-pub returns-then-code-lt-INCLUDES : goal.returns-then-code-lt-INCLUDES
-returns-then-code-lt-INCLUDES c = search product_level
+pub returns-in_default-2 : goal.returns-in_default-2
+unfolding sign_level
+returns-in_default-2 c = search (tests, rules)
 
-pub returns-then-code-eq-OVER : goal.returns-then-code-eq-OVER
-returns-then-code-eq-OVER c = search over_level
+pub returns-in-17-to-19 : goal.returns-in-17-to-19
+unfolding sign_level
+returns-in-17-to-19 c = search (tests, rules)
 
-pub returns-else-code-eq-OVER : goal.returns-else-code-eq-OVER
-returns-else-code-eq-OVER c = search no_level
+pub returns-in-17-to-19-2 : goal.returns-in-17-to-19-2
+unfolding sign_level
+returns-in-17-to-19-2 c = search (tests, rules)

@@ -12,11 +12,5 @@ fresh_line-sums-requires c = record { least_words_in_bounds = (c.requires.least_
 pub loop-o-preserved : goal.loop-o-preserved
 loop-o-preserved c = search objects_next
 
-pub shape_of-w2 : goal.shape_of-w2
-shape_of-w2 c = cc
-
-pub shape_of-buf : goal.shape_of-buf
-shape_of-buf c = cc
-
 pub returns : goal.returns
 returns c = search objects_all

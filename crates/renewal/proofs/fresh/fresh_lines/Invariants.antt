@@ -1,10 +1,6 @@
 -- `fresh_lines` meets its contract. Assumes nothing.
-use Prim.Native.Nat.{◌-◌}
 use Rattle.renewal.proofs.FreshLaws.{ObjectsTo}
 use Rattle.renewal.proofs.fresh.fresh_lines.Given as goal
 
 abbrev pub invariant-loop-o : goal.invariant-loop-o
 invariant-loop-o l = ObjectsTo l.st l.w0 l.w1 l.r l.initial.sums l.initial.w2 l.w2 l.initial.buf l.buf l.o l.sums
-
-abbrev pub decreases-loop-o : goal.decreases-loop-o
-decreases-loop-o l = l.st.objects - l.o

@@ -1,7 +1,6 @@
 -- `fresh_rules` meets its contract. Assumes nothing.
 use native.Mathlib.Omega.{arith}
 use Rattle.renewal.proofs.FreshRuleLaws.{rules_none, some_rule, rules_few, rules_next, rules_all}
-use borrow.Author.Rules.{rules}
 use Rattle.renewal.proofs.fresh.fresh_rules.Goals as goal
 
 pub loop-r-init : goal.loop-r-init
@@ -12,15 +11,6 @@ told_lines-sums-requires c = record { least_words_in_bounds = (c.requires.least_
 
 pub loop-r-preserved : goal.loop-r-preserved
 loop-r-preserved c = rules_next c.loop-r.invariant c.wide-rules.ensures c.loop-r-test.true c.requires.least_output_in_bounds.1 (omega (arith, c.requires.least_words_in_bounds.3.accepted.lies.fine.rules, c.wide-rules.ensures)) c.told_lines-sums.ensures
-
-pub shape_of-w2 : goal.shape_of-w2
-shape_of-w2 c = cc
-
-pub shape_of-buf : goal.shape_of-buf
-shape_of-buf c = cc
-
-pub shape_of-ends : goal.shape_of-ends
-shape_of-ends c = cc
 
 pub returns : goal.returns
 returns c = search rules_all

@@ -1,14 +1,10 @@
 -- `spread_rules` meets its contract. Assumes nothing.
-use native.Mathlib.Omega.{arith}
 use Rattle.renewal.proofs.SpreadLaws.{spread_start, still_placing, spread_turn, spread_done}
 use borrow.Author.Rules.{rules}
 use Rattle.renewal.proofs.spread.spread_rules.Goals as goal
 
 pub loop-r-init : goal.loop-r-init
 loop-r-init c = spread_start _ _ c.wide-r.ensures
-
-pub overflow_sub-r : goal.overflow_sub-r
-overflow_sub-r c = omega (arith, c.loop-r-test.true)
 
 pub put_rule-requires : goal.put_rule-requires
 put_rule-requires c = search (still_placing, rules)

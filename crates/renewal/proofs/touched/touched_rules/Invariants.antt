@@ -1,11 +1,6 @@
 -- `touched_rules` meets its contract. Assumes nothing.
-use Prim.Native.Nat.{◌-◌}
 use Rattle.renewal.proofs.TouchedLaws.{TouchedTo}
-use borrow.Author.Rules.{rules}
 use Rattle.renewal.proofs.touched.touched_rules.Given as goal
 
 abbrev pub invariant-loop-r : goal.invariant-loop-r
 invariant-loop-r l = TouchedTo l.rules l.w0 l.w2 l.row l.touched l.r
-
-abbrev pub decreases-loop-r : goal.decreases-loop-r
-decreases-loop-r l = l.rules - l.r

@@ -16,4 +16,4 @@ pub returns-in_default-number : goal.returns-in_default-number
 returns-in_default-number c = search (clearing_unread, cleared_row)
 
 pub returns : goal.returns
-returns c = λ w1. clearing_judged c.requires.0 c.requires.1 c.requires.2 c.field.ensures c.number.ensures c.in-Is.is c.field-2.ensures c.number-2.ensures c.in-Is-number.is (c.judge_cleared.ensures w1)
+returns c = λ w1. clearing_judged c.requires.0 c.requires.1 c.requires.2 c.field.ensures c.number.ensures c.in-Some.is c.field-2.ensures c.number-2.ensures c.in-Some-number.is (c.judge_cleared.ensures w1)

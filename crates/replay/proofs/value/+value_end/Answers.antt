@@ -1,4 +1,5 @@
 -- `replay::value::value_end` meets its contract. Assumes nothing.
+use mathlib.Core.Logic.{⊎_elim}
 use native.Mathlib.Omega.{arith}
 use Rattle.replay.proofs.CellLaws.{end_past, end_simple, end_other, end_top, end_deep}
 use Rattle.replay.proofs.MemberLaws.{among_first, among_again}
@@ -15,22 +16,19 @@ pub returns-then-cell-lt-COLLECTIONS : goal.returns-then-cell-lt-COLLECTIONS
 returns-then-cell-lt-COLLECTIONS t c = search end_other
 
 pub returns-then-cell-ge-TOP : goal.returns-then-cell-ge-TOP
-returns-then-cell-ge-TOP t c = search end_top
+returns-then-cell-ge-TOP t c = ⊎_elim (end_top (omega arith)) (λ h. end_deep (omega arith) (omega arith) h.1) c.then-cell-ge-TOP.either
 
-pub returns-then-deep-eq0 : goal.returns-then-deep-eq0
-returns-then-deep-eq0 t c = search end_deep
-
-pub loop-i-init : goal.loop-i-init
-loop-i-init t c = among_first _ _ (omega arith)
+pub loop-init : goal.loop-init
+loop-init t c = among_first _ _ (omega arith)
 
 pub value_end-r-requires : goal.value_end-r-requires
 value_end-r-requires t c = (let z = c.decreases in omega arith, tt)
 
 pub returns-then-r-eq0 : goal.returns-then-r-eq0
-returns-then-r-eq0 t c = group_none _ _ _ _ (omega arith) (omega arith) (omega arith) c.if-deep-eq0.false c.member_count-n.ensures.0 c.loop-i.invariant c.value_end-r.ensures c.loop-i-test.true c.if-r-eq0.true
+returns-then-r-eq0 t c = group_none _ _ _ _ (omega arith) (omega arith) (omega arith) c.if-deep-eq0.false c.member_count-n.ensures.0 c.loop.invariant c.value_end-r.ensures c.loop-test.true c.if-r-eq0.true
 
-pub loop-i-preserved : goal.loop-i-preserved
-loop-i-preserved t c = among_again c.loop-i.invariant c.value_end-r.ensures c.loop-i-test.true (omega arith)
+pub loop-preserved : goal.loop-preserved
+loop-preserved t c = among_again c.loop.invariant c.value_end-r.ensures c.loop-test.true (omega arith)
 
 pub returns : goal.returns
-returns t c = group_end _ _ _ _ (omega arith) (omega arith) (omega arith) c.if-deep-eq0.false c.member_count-n.ensures.0 c.loop-i.invariant (omega arith)
+returns t c = group_end _ _ _ _ (omega arith) (omega arith) (omega arith) c.if-deep-eq0.false c.member_count-n.ensures.0 c.loop.invariant (omega arith)

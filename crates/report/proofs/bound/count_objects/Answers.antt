@@ -1,18 +1,22 @@
 -- `count_objects` meets its contract. Assumes nothing.
-use mathlib.Core.Path.{◌∙◌}
+use mathlib.Core.Path.{◌≡◌, ap, ◌∙◌}
 use native.Mathlib.Omega.{arith}
-use Rattle.report.proofs.BoundLaws.{count_none, count_next, count_all}
+use borrow.Author.Rules.{rules}
+use Rattle.std.proofs.lemmas.Iterator.{YieldsList-from_range}
+use Rattle.std.proofs.lemmas.Iterator.Consumers.{YieldsList-from_filter, count_from_yields_List}
+use Rattle.ocl.specs.Types.{class}
+use Rattle.ocl.specs.Model.{is_a}
+use Rattle.report.proofs.BoundLaws.{is_a_told, objects_counted}
 use Rattle.report.proofs.bound.count_objects.Goals as goal
-use Rattle.report.proofs.bound.count_objects.Goals.{then-is_a, else-is_a}
-
-pub loop-o-init : goal.loop-o-init
-loop-o-init c = count_none
-
-pub is_a-requires : goal.is_a-requires
-is_a-requires c = c.requires
-
-pub loop-o-preserved : goal.loop-o-preserved
-loop-o-preserved c = count_next c.loop-o.invariant c.is_a.ensures c.loop-o-test.true (elim c.if-is_a.branch [ then-is_a w ↦ rw w.if-is_a.true w.n-is | else-is_a w ↦ rw w.if-is_a.false (w.n-is ∙ omega arith) ])
 
 pub returns : goal.returns
-returns c = count_all c.loop-o.invariant (omega (arith, c.loop-o.invariant.within, c.loop-o-test.false)) c.requires.fine.objects
+returns c =
+    let n = c.args.st.objects in
+    let end : c.filter.result.iter.end ≡ n = ap (λ r. r.end) c.filter.ensures.source in
+    record {
+      is = λ m h.
+          count_from_yields_List c.filter.result _ c.count.ensures.ran
+          (YieldsList-from_filter _ (λ o. is_a m o (class c.args.c)) (YieldsList-from_range 0 n n c.filter.ensures.source (omega arith)) c.filter.ensures.closure (λ x r q k. search (rules, is_a_told c.args.c h)))
+          ∙ objects_counted m c.args.c n;
+      few = omega (arith, end, c.count.ensures.bound, c.requires.fine.objects);
+    }

@@ -13,11 +13,5 @@ object_line-sum-requires c = record { least_words_in_bounds = (c.requires.least_
 pub loop-o-preserved : goal.loop-o-preserved
 loop-o-preserved c = search (lines_next, lines_room)
 
-pub shape_of-w2 : goal.shape_of-w2
-shape_of-w2 c = cc
-
-pub shape_of-out : goal.shape_of-out
-shape_of-out c = cc
-
 pub returns : goal.returns
 returns c = lines_end c.loop-o.invariant (omega (arith, c.loop-o.invariant.within, c.loop-o-test.false))

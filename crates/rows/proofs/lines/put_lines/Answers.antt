@@ -8,10 +8,10 @@ pub loop-r-init : goal.loop-r-init
 loop-r-init c = lines_none _
 
 pub offset_bounds-w2-root : goal.offset_bounds-w2-root
-offset_bounds-w2-root c = omega (arith, root_low c.requires.3 c.wide-rules.ensures c.loop-r-test.true c.wide-root.ensures)
+offset_bounds-w2-root c = omega (arith, root_low c.requires.3 c.wide-r-end.ensures c.loop-r-test.true c.wide-root.ensures)
 
 pub bounds-w2-root : goal.bounds-w2-root
-bounds-w2-root c = omega (arith, root_low c.requires.3 c.wide-rules.ensures c.loop-r-test.true c.wide-root.ensures)
+bounds-w2-root c = omega (arith, root_low c.requires.3 c.wide-r-end.ensures c.loop-r-test.true c.wide-root.ensures)
 
 pub put_line-end-requires : goal.put_line-end-requires
 put_line-end-requires c = (search rules, search rules, search line_room)

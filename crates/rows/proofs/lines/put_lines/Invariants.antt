@@ -1,11 +1,6 @@
 -- `put_lines` meets its contract. Assumes nothing.
-use borrow.Author.Rules.{rules}
-use Prim.Native.Nat.{◌-◌}
 use Rattle.rows.proofs.RuleLaws.{LinesTo}
 use Rattle.rows.proofs.lines.put_lines.Given as goal
 
 abbrev pub invariant-loop-r : goal.invariant-loop-r
 invariant-loop-r l = LinesTo l.st l.w0 l.w2 l.initial.out l.out l.r l.end
-
-abbrev pub decreases-loop-r : goal.decreases-loop-r
-decreases-loop-r l = l.rules - l.r

@@ -1,21 +1,11 @@
--- The loop's invariant: the first i words are 0, and the others are as they were. Assumes nothing.
-use borrow.Author.Rules.{rules}
-use native.Mathlib.Omega.{arith}
-use mathlib.Core.Path.{◌≡◌, refl, ap, ◌∙◌}
-use mathlib.Core.List.{◌++◌}
-use lib.ListN.{drop, set, replicate, length-set}
-use Rattle.tables.proofs.Zeros.{zero_next}
+-- `clear_marks` meets its contract. Assumes nothing.
+use Rattle.std.proofs.Common.{arith, ap, sym, ◌++◌, ◌∙◌}
+use Rattle.std.proofs.lemmas.List.{length-take-le}
+use Rattle.std.specs.Prelude.{drop, replicate}
 use Rattle.rules.proofs.all.clear_marks.Goals as goal
 
-pub loop-i-init : goal.loop-i-init
-loop-i-init c = (omega arith, refl, refl)
-
-pub loop-i-preserved : goal.loop-i-preserved
-loop-i-preserved c = (
-  search rules,
-  length-set c.loop-i.w2 c.loop-i.i 0 ∙ c.loop-i.invariant.1,
-  ap (λ l. set l c.loop-i.i 0) c.loop-i.invariant.2 ∙ zero_next c.loop-i.i c.args.w2.now (omega (arith, c.requires)),
-)
+pub slice_bounds-fill-end-2 : goal.slice_bounds-fill-end-2
+slice_bounds-fill-end-2 c = sym (length-take-le _ c.args.w2.now (omega (arith, c.requires)))
 
 pub returns : goal.returns
-returns c = let e : c.loop-i.i ≡ 768 = omega arith in c.loop-i.invariant.2 ∙ ap (λ i. replicate i 0 ++ drop i c.args.w2.now) e
+returns c = let w = c.args.w2.now in ap (λ l. l ++ drop 768 w) (c.fill.ensures.after (λ y h. h) ∙ ap (λ n. replicate n 0) (length-take-le 768 w (omega (arith, c.requires))))

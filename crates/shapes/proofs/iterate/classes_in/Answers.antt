@@ -1,12 +1,7 @@
 -- `classes_in` meets its contract.
 use Rattle.shapes.specs.Iterate.{classes_in}
-use Rattle.shapes.proofs.IterateLaws.{classes_less}
 use mathlib.Core.Path.{sym, ap}
-use borrow.Author.Rules.{rules}
 use Rattle.shapes.proofs.iterate.classes_in.Goals as goal
-
-pub overflow_add-result : goal.overflow_add-result
-overflow_add-result c = search (classes_less, rules)
 
 pub returns-in-Void : goal.returns-in-Void
 unfolding classes_in
@@ -30,4 +25,4 @@ returns-in-Real c = sym (ap classes_in c.in-Real.is)
 
 pub returns-in-Class : goal.returns-in-Class
 unfolding classes_in
-returns-in-Class c = sym (ap classes_in c.in-Class.is)
+returns-in-Class c = rw (c.in-Class.is, c.from.ensures)

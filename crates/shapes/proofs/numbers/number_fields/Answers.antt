@@ -14,7 +14,7 @@ pub returns-in_default : goal.returns-in_default
 returns-in_default c = read_bad c.loop-i.invariant.0 c.loop-i-test.true (field_count c.requires.0 c.requires.3) (sym c.in_default.is ∙ c.number.ensures ∙ ap (λ x. cut_num (a_number x)) c.field.ensures) c.no_numbers.ensures
 
 pub loop-i-preserved : goal.loop-i-preserved
-loop-i-preserved c = (read_next c.loop-i.invariant.0 c.loop-i-test.true (field_count c.requires.0 c.requires.3) (sym c.in-Is.is ∙ c.number.ensures ∙ ap (λ x. cut_num (a_number x)) c.field.ensures) c.requires.2, search rules, search rules, simp length-set c.loop-i.invariant.3)
+loop-i-preserved c = (read_next c.loop-i.invariant.0 c.loop-i-test.true (field_count c.requires.0 c.requires.3) (sym c.in-Some.is ∙ c.number.ensures ∙ ap (λ x. cut_num (a_number x)) c.field.ensures) c.requires.2, search rules, search rules, simp length-set c.loop-i.invariant.3)
 
 pub returns : goal.returns
 returns c = search read_all

@@ -1,19 +1,11 @@
 -- `slots::objects::all_known` meets its contract. Assumes nothing.
-use borrow.Author.Tests.{not-true, not-false}
-use Rattle.slots.proofs.ObjectLaws.{known_not, known_again, known_all}
-use mathlib.Core.Path.{refl}
 use borrow.Author.Rules.{rules}
-use native.Mathlib.Omega.{arith}
+use borrow.Author.Tests.{tests}
+use Rattle.std.proofs.lemmas.Iterator.{YieldsList-from_slice}
+use Rattle.std.proofs.lemmas.Iterator.Search.{all_from_yields_List}
+use Rattle.slots.specs.Objects.{cell_known}
+use Rattle.slots.proofs.ObjectLaws.{known_all}
 use Rattle.slots.proofs.objects.all_known.Goals as goal
 
-pub loop-i-init : goal.loop-i-init
-loop-i-init c = (refl, omega arith)
-
-pub returns-then-not-known : goal.returns-then-not-known
-returns-then-not-known c = search (known_not, not-true)
-
-pub loop-i-preserved : goal.loop-i-preserved
-loop-i-preserved c = search (known_again, not-false, rules)
-
 pub returns : goal.returns
-returns c = search known_all
+returns c = known_all _ _ (all_from_yields_List (cell_known c.args.n) _ _ _ c.all.ensures.ran (YieldsList-from_slice c.args.cells.now cc) (λ x b q k. search (rules, tests)))

@@ -1,6 +1,5 @@
 -- `slots::order::in_row` meets its contract. Assumes nothing.
 use Rattle.slots.proofs.OrderLaws.{row_free, row_start, row_last, row_not, row_again, row_end}
-use borrow.Author.Tests.{not-true}
 use native.Mathlib.Omega.{arith}
 use Rattle.slots.proofs.order.in_row.Goals as goal
 
@@ -23,7 +22,7 @@ compare-requires c =
     omega arith
 
 pub returns-then-not-may_follow : goal.returns-then-not-may_follow
-returns-then-not-may_follow c = search (row_not, not-true)
+returns-then-not-may_follow c = search row_not
 
 pub loop-q-smaller : goal.loop-q-smaller
 loop-q-smaller c = let u = c.skip-r.ensures.up c.loop-q-test.true in omega arith

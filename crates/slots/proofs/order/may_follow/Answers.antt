@@ -1,12 +1,17 @@
 -- `slots::order::may_follow` meets its contract. Assumes nothing.
-use Rattle.slots.proofs.OrderLaws.{follows_set, follows_bag, follows_any}
+use borrow.Author.Rules.{rules}
+use borrow.Author.Tests.{tests}
+use Rattle.slots.specs.Order.{follows}
 use Rattle.slots.proofs.order.may_follow.Goals as goal
 
-pub returns-then-sort-eq3 : goal.returns-then-sort-eq3
-returns-then-sort-eq3 c = follows_set _ c.if-sort-eq3.true
+pub returns-in-3 : goal.returns-in-3
+unfolding follows
+returns-in-3 c = search (rules, tests)
 
-pub returns-then-sort-eq5 : goal.returns-then-sort-eq5
-returns-then-sort-eq5 c = follows_bag _ c.if-sort-eq5.true
+pub returns-in-5 : goal.returns-in-5
+unfolding follows
+returns-in-5 c = search (rules, tests)
 
-pub returns : goal.returns
-returns c = search follows_any
+pub returns-in_default : goal.returns-in_default
+unfolding follows
+returns-in_default c = search (rules, tests)

@@ -1,11 +1,9 @@
 -- `slots::parts::number_part` meets its contract. Assumes nothing.
-use mathlib.Core.Path.{sym, ap}
-use Rattle.text.specs.declared.literals.Literal.{Literal}
-use Rattle.slots.specs.Parts.{part_of}
+use mathlib.Core.Path.{◌≡◌}
+use Rattle.memory.specs.declared.refusals.Misread.TheVariants.{OverLimit}
 use Rattle.slots.proofs.parts.number_part.Goals as goal
 
-pub returns-in-Over : goal.returns-in-Over
-returns-in-Over c = ap (λ (l : Literal). part_of l c.args.end) (sym c.in-Over.is)
-
-pub returns-in-Is : goal.returns-in-Is
-returns-in-Is c = ap (λ (l : Literal). part_of l c.args.end) (sym c.in-Is.is)
+pub returns-in-Err-OverLimit : goal.returns-in-Err-OverLimit
+returns-in-Err-OverLimit c =
+    let e : c.in-Err-OverLimit.field-0 ≡ OverLimit = rw c.in-Err-OverLimit.is at c.in-Err-OverLimit.field-0-is in
+    rw (c.in-Err-OverLimit.is, e)

@@ -7,8 +7,5 @@ use Rattle.slots.proofs.reader.add_cell.Goals as goal
 pub returns-then-n-cells : goal.returns-then-n-cells
 returns-then-n-cells c = added_cell _ (omega arith) (omega arith) refl
 
-pub returns-else-n-cells : goal.returns-else-n-cells
-returns-else-n-cells c = added_full _ (λ x y. omega arith) refl
-
-pub returns-else-n-lt-LARGEST : goal.returns-else-n-lt-LARGEST
-returns-else-n-lt-LARGEST c = added_full _ (λ x y. omega arith) refl
+pub returns : goal.returns
+returns c = added_full _ (λ x y. omega arith) refl

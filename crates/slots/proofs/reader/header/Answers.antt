@@ -2,11 +2,11 @@
 use Rattle.slots.proofs.CountLaws.{header_first, header_second, header_third}
 use Rattle.slots.proofs.reader.header.Goals as goal
 
-pub returns-then-o-eq1 : goal.returns-then-o-eq1
-returns-then-o-eq1 c = header_first _ c.if-o-eq1.true
+pub returns-in-1 : goal.returns-in-1
+returns-in-1 c = search header_first
 
-pub returns-then-o-eq2 : goal.returns-then-o-eq2
-returns-then-o-eq2 c = header_second _ c.if-o-eq2.true
+pub returns-in-2 : goal.returns-in-2
+returns-in-2 c = search header_second
 
-pub returns : goal.returns
-returns c = search header_third
+pub returns-in_default : goal.returns-in_default
+returns-in_default c = search header_third

@@ -1,21 +1,25 @@
 -- `slots::suits::base_suits` meets its contract. Assumes nothing.
-use Rattle.slots.proofs.BaseLaws.{base_object, base_high, base_any, base_truth, base_integer, base_number, low_sort}
+use native.Mathlib.Omega.{arith}
+use Rattle.slots.proofs.BaseLaws.{base_object, base_high, base_any, base_truth, base_integer, base_number}
 use Rattle.slots.proofs.suits.base_suits.Goals as goal
 
-pub returns-then-sort-eq2 : goal.returns-then-sort-eq2
-returns-then-sort-eq2 c = search base_object
+pub returns-in-2-default : goal.returns-in-2-default
+returns-in-2-default c = search base_object
 
-pub returns-then-sort-gt2 : goal.returns-then-sort-gt2
-returns-then-sort-gt2 c = search base_high
+pub returns-in-0-eq3 : goal.returns-in-0-eq3
+returns-in-0-eq3 c = base_any _ c.sort_of.ensures c.tag.ensures (omega arith) c.in-0-eq3.is-1
 
-pub returns-then-y-eq3 : goal.returns-then-y-eq3
-returns-then-y-eq3 c = search (base_any, low_sort)
+pub returns-in-0-eq3-2 : goal.returns-in-0-eq3-2
+returns-in-0-eq3-2 c = base_any _ c.sort_of.ensures c.tag.ensures (omega arith) c.in-0-eq3.is-1
 
-pub returns-then-sort-eq0 : goal.returns-then-sort-eq0
-returns-then-sort-eq0 c = search base_truth
+pub returns-in-0-default : goal.returns-in-0-default
+returns-in-0-default c = base_truth _ c.sort_of.ensures c.tag.ensures (λ e. omega arith) c.in-0-default.is-0
 
-pub returns-then-y-eq2 : goal.returns-then-y-eq2
-returns-then-y-eq2 c = search (base_integer, low_sort)
+pub returns-in-1-eq2 : goal.returns-in-1-eq2
+returns-in-1-eq2 c = base_integer _ c.sort_of.ensures c.tag.ensures (λ e. omega arith) (omega arith) (λ e. omega arith) c.in-1-eq2.is-1 c.is_integer.ensures
 
-pub returns : goal.returns
-returns c = search (base_number, low_sort)
+pub returns-in-1-default : goal.returns-in-1-default
+returns-in-1-default c = base_number _ c.sort_of.ensures c.tag.ensures (λ e. omega arith) (omega arith) (λ e. omega arith) (λ e. omega arith)
+
+pub returns-in_default : goal.returns-in_default
+returns-in_default c = base_high _ c.sort_of.ensures (omega arith)

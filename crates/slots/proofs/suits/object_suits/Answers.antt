@@ -5,5 +5,5 @@ use Rattle.slots.proofs.suits.object_suits.Goals as goal
 pub returns-then-at-objects : goal.returns-then-at-objects
 returns-then-at-objects c = search object_there
 
-pub returns : goal.returns
-returns c = search object_gone
+pub returns-else-at-objects : goal.returns-else-at-objects
+returns-else-at-objects c = search object_gone

@@ -1,15 +1,15 @@
 -- `real_literal` meets its contract. Assumes nothing.
-use Rattle.text.proofs.LiteralLaws.{real_sound, real_bad, real_over, real_is}
+use mathlib.Core.Path.{◌≡◌, ◌∙◌}
+use borrow.Author.Rules.{rules}
+use Rattle.std.specs.Prelude.{Err}
+use Rattle.text.proofs.LiteralLaws.{real_sound, real_none, real_is}
 use Rattle.text.proofs.literals.real_literal.Goals as goal
 
 pub cell_of-requires : goal.cell_of-requires
-cell_of-requires c = search real_sound
+cell_of-requires c = real_sound _ c.read_real.ensures c.in_ok-x.was
 
-pub returns-in-Bad : goal.returns-in-Bad
-returns-in-Bad c = search real_bad
+pub returns-in_err-x : goal.returns-in_err-x
+returns-in_err-x c = let e : c.from_residual.result ≡ Err c.in_err-x.field-0.0 = search rules in e ∙ real_none _ c.read_real.ensures c.in_err-x.was
 
-pub returns-in-Over : goal.returns-in-Over
-returns-in-Over c = search real_over
-
-pub returns-in-Is : goal.returns-in-Is
-returns-in-Is c = search real_is
+pub returns : goal.returns
+returns c = real_is _ c.read_real.ensures c.in_ok-x.was c.cell_of.ensures

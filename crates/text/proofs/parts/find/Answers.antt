@@ -1,13 +1,14 @@
--- `find` meets its contract. What is left has its first separator where the whole has it, less the bytes passed. Assumes nothing.
-use borrow.Author.Rules.{rules}
-use Rattle.text.proofs.PartLaws.{find_here, find_next, find_none}
+-- `find` meets its contract. Assumes nothing.
+use Rattle.std.proofs.Common.{◌≡◌, ◌≤◌, ◌<◌, ℕ}
+use Rattle.std.proofs.lemmas.Grind.{common_steps}
+use native.Mathlib.Omega.{arith}
+use lib.ListN.{length, get_or}
+use Rattle.text.proofs.PartLaws.{first_at}
 use Rattle.text.proofs.parts.find.Goals as goal
 
-pub returns-then-s-i : goal.returns-then-s-i
-returns-then-s-i c = search find_here
-
-pub loop-i-preserved : goal.loop-i-preserved
-loop-i-preserved c = search (find_next, rules)
-
 pub returns : goal.returns
-returns c = search find_none
+returns c =
+    let within : c.unwrap_or.result ≤ length c.args.s.now = grind (arith, common_steps) in
+    let before : (k : ℕ) → k < c.unwrap_or.result → get_or c.args.s.now k 0 ≡ c.args.sep → ⊥ = grind (arith, common_steps) in
+    let here : c.unwrap_or.result < length c.args.s.now → get_or c.args.s.now c.unwrap_or.result 0 ≡ c.args.sep = grind (arith, common_steps) in
+    record { is = first_at _ _ _ within before here; within = within }

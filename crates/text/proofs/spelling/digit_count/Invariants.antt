@@ -1,12 +1,9 @@
 -- `digit_count` meets its contract. The number has k digits or more. Assumes nothing.
-use Prim.Native.Nat.{◌≤◌, ◌-◌}
+use Prim.Native.Nat.{◌≤◌}
 use lib.ListN.{length}
 use Rattle.sheet.specs.Text.{spell_number}
-use Rattle.text.proofs.DigitLaws.{powers, Powers}
+use Rattle.text.proofs.DigitLaws.{Powers}
 use Rattle.text.proofs.spelling.digit_count.Given as goal
 
 abbrev pub invariant-loop-k : goal.invariant-loop-k
 invariant-loop-k l = Powers l.powers × (1 ≤ l.k) × (l.k ≤ 20) × (l.k ≤ length (spell_number l.n))
-
-abbrev pub decreases-loop-k : goal.decreases-loop-k
-decreases-loop-k l = 20 - l.k

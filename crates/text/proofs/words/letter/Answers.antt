@@ -1,9 +1,13 @@
 -- `letter` meets its contract. By the field's length. Assumes nothing.
+use native.Mathlib.Omega.{arith}
 use Rattle.text.proofs.WordLaws.{letter_one, letter_none}
 use Rattle.text.proofs.words.letter.Goals as goal
 
-pub returns-then-f-eq1 : goal.returns-then-f-eq1
-returns-then-f-eq1 c = search letter_one
+pub returns-in-len1 : goal.returns-in-len1
+returns-in-len1 c = letter_one _ (omega arith)
 
-pub returns : goal.returns
-returns c = letter_none _ c.if-f-eq1.false
+pub returns-in_default : goal.returns-in_default
+returns-in_default c = letter_none _ (λ e. omega arith)
+
+pub returns-in_default-2 : goal.returns-in_default-2
+returns-in_default-2 c = letter_none _ (λ e. omega arith)

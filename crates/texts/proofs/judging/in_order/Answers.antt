@@ -1,15 +1,32 @@
 -- `in_order` meets its contract.
-use Rattle.texts.proofs.JudgeLaws.{order_block, order_open, order_first, order_apart}
+use borrow.Author.Rules.{rules}
+use borrow.Author.Tests.{tests}
+use Rattle.texts.specs.Judging.{text_order}
 use Rattle.texts.proofs.judging.in_order.Goals as goal
-
-pub returns-then-st-gt-RULES : goal.returns-then-st-gt-RULES
-returns-then-st-gt-RULES c = search order_block
-
-pub returns-then-st-ne-RULE_OPEN : goal.returns-then-st-ne-RULE_OPEN
-returns-then-st-ne-RULE_OPEN c = search order_open
+use Rattle.texts.proofs.judging.in_order.Goals.{then-st-le-RULES, else-st-le-RULES, then-st-eq-RULE_OPEN, else-st-eq-RULE_OPEN}
 
 pub returns-then-st : goal.returns-then-st
-returns-then-st c = search order_first
+unfolding text_order
+returns-then-st c = elim c.if-st-eq-RULE_OPEN.branch [
+  | then-st-eq-RULE_OPEN w ↦ elim c.if-st-le-RULES.branch [
+    | then-st-le-RULES v ↦ search (rules, tests)
+    | else-st-le-RULES v ↦ search (rules, tests)
+  ]
+  | else-st-eq-RULE_OPEN w ↦ elim c.if-st-le-RULES.branch [
+    | then-st-le-RULES v ↦ search (rules, tests)
+    | else-st-le-RULES v ↦ search (rules, tests)
+  ]
+]
 
-pub returns : goal.returns
-returns c = search order_apart
+pub returns-else-st : goal.returns-else-st
+unfolding text_order
+returns-else-st c = elim c.if-st-eq-RULE_OPEN.branch [
+  | then-st-eq-RULE_OPEN w ↦ elim c.if-st-le-RULES.branch [
+    | then-st-le-RULES v ↦ search (rules, tests)
+    | else-st-le-RULES v ↦ search (rules, tests)
+  ]
+  | else-st-eq-RULE_OPEN w ↦ elim c.if-st-le-RULES.branch [
+    | then-st-le-RULES v ↦ search (rules, tests)
+    | else-st-le-RULES v ↦ search (rules, tests)
+  ]
+]

@@ -1,9 +1,11 @@
 -- `within_limits` meets its contract.
-use Rattle.texts.proofs.JudgeLaws.{limits_form, limits_nodes}
+use Rattle.texts.specs.Judging.{text_limits}
 use Rattle.texts.proofs.judging.within_limits.Goals as goal
 
-pub returns-then-not-g : goal.returns-then-not-g
-returns-then-not-g c = search limits_form
+pub returns-then-g : goal.returns-then-g
+unfolding text_limits
+returns-then-g c = rw c.if-g.true
 
-pub returns : goal.returns
-returns c = search limits_nodes
+pub returns-else-g : goal.returns-else-g
+unfolding text_limits
+returns-else-g c = rw c.if-g.false

@@ -1,12 +1,7 @@
 -- `token_code` meets its contract. Assumes nothing.
-use mathlib.Core.Path.{◌∙◌, ap}
-use Rattle.tokens.specs.Codes.{code_of}
 use Rattle.tokens.proofs.CodeLaws.{other_code, some_code}
-use Rattle.tokens.proofs.LengthLaws.{one_byte, hash_begins, digit_begins}
+use Rattle.tokens.proofs.LengthLaws.{hash_begins, digit_begins}
 use Rattle.tokens.proofs.codes.token_code.Goals as goal
-
-pub returns-then-f-eq1 : goal.returns-then-f-eq1
-returns-then-f-eq1 c = c.byte_code.ensures ∙ ap code_of (one_byte _ c.if-f-eq1.true)
 
 pub returns-then-k-eq-NO_FORM : goal.returns-then-k-eq-NO_FORM
 returns-then-k-eq-NO_FORM c = search other_code

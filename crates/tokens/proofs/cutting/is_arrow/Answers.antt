@@ -1,12 +1,7 @@
 -- `is_arrow` meets its contract.
-use Rattle.tokens.proofs.TokenLaws.{minus_then, last_minus, no_minus}
+use mathlib.Core.Path.{◌∙◌}
+use Rattle.tokens.proofs.TokenLaws.{arrow_starts}
 use Rattle.tokens.proofs.cutting.is_arrow.Goals as goal
 
-pub returns-then-e-s : goal.returns-then-e-s
-returns-then-e-s c = search minus_then
-
-pub returns-else-e-s : goal.returns-else-e-s
-returns-else-e-s c = search last_minus
-
-pub returns-else-s-at-eq45 : goal.returns-else-s-at-eq45
-returns-else-s-at-eq45 c = search no_minus
+pub returns : goal.returns
+returns c = c.starts_with.ensures.value ∙ arrow_starts c.args.s.now c.args.at

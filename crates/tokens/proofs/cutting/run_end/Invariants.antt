@@ -1,12 +1,9 @@
 -- `run_end` meets its contract.
-use Prim.Native.Nat.{◌≤◌, ◌+◌, ◌-◌}
+use Prim.Native.Nat.{◌+◌}
 use mathlib.Core.Path.{◌≡◌}
-use lib.ListN.{length, drop}
+use lib.ListN.{drop}
 use Rattle.tokens.specs.Meanings.{run}
 use Rattle.tokens.proofs.cutting.run_end.Given as goal
 
 abbrev pub invariant-loop-i : goal.invariant-loop-i
-invariant-loop-i l = (l.i ≤ length l.s) × (l.i + run (drop l.i l.s) ≡ l.at + run (drop l.at l.s))
-
-abbrev pub decreases-loop-i : goal.decreases-loop-i
-decreases-loop-i l = length l.s - l.i
+invariant-loop-i l = l.i + run (drop l.i l.s) ≡ l.at + run (drop l.at l.s)

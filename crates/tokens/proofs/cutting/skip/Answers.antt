@@ -1,11 +1,7 @@
 -- `skip` meets its contract.
-use mathlib.Core.Path.{refl}
 use borrow.Author.Rules.{rules}
 use Rattle.tokens.proofs.TokenLaws.{space_next}
 use Rattle.tokens.proofs.cutting.skip.Goals as goal
-
-pub loop-i-init : goal.loop-i-init
-loop-i-init c = (search rules, search rules, refl)
 
 pub loop-i-preserved : goal.loop-i-preserved
 loop-i-preserved c = search (space_next, rules)

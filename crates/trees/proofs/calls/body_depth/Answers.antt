@@ -1,5 +1,4 @@
 -- `body_depth` meets its contract.
-use native.Mathlib.Omega.{arith}
 use Rattle.trees.proofs.CallLaws.{depth_none, depth_far, depth_is}
 use Rattle.trees.proofs.calls.body_depth.Goals as goal
 
@@ -9,8 +8,5 @@ returns-then-not-is_call c = search depth_none
 pub returns-then-root-ge-MOST_NODES : goal.returns-then-root-ge-MOST_NODES
 returns-then-root-ge-MOST_NODES c = search depth_far
 
-pub returns-then-h-lt-DEPTH_CUT : goal.returns-then-h-lt-DEPTH_CUT
-returns-then-h-lt-DEPTH_CUT c = depth_is _ _ c.is_call.ensures _ c.if-not-is_call.false c.if-root-ge-MOST_NODES.false (omega arith)
-
-pub returns-else-h-lt-DEPTH_CUT : goal.returns-else-h-lt-DEPTH_CUT
-returns-else-h-lt-DEPTH_CUT c = depth_is _ _ c.is_call.ensures _ c.if-not-is_call.false c.if-root-ge-MOST_NODES.false (omega arith)
+pub returns : goal.returns
+returns c = depth_is _ _ c.is_call.ensures _ c.if-not-is_call.false c.if-root-ge-MOST_NODES.false c.min.ensures

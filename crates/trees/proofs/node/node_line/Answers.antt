@@ -16,4 +16,4 @@ pub returns-then-not-p : goal.returns-then-not-p
 returns-then-not-p c = line_form c.requires.0 c.requires.1 c.if-f-lt3.false (c.form_code.ensures ∙ ap form_code c.field-2.ensures) c.read_form-p.ensures c.if-not-p.true
 
 pub returns : goal.returns
-returns c = line_placed c.requires.0 c.requires.1 c.if-f-lt3.false (c.form_code.ensures ∙ ap form_code c.field-2.ensures) c.read_form-p.ensures (sym c.in-Is.is ∙ c.number.ensures ∙ ap (λ x. cut_num (a_number x)) c.field.ensures) c.if-not-p.false c.place_node.ensures
+returns c = line_placed c.requires.0 c.requires.1 c.if-f-lt3.false (c.form_code.ensures ∙ ap form_code c.field-2.ensures) c.read_form-p.ensures (sym c.in-Some.is ∙ c.number.ensures ∙ ap (λ x. cut_num (a_number x)) c.field.ensures) c.if-not-p.false c.place_node.ensures

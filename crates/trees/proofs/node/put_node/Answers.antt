@@ -20,15 +20,15 @@ put_words-requires c = (omega (arith, c.mark.auto.w1, c.requires.1), nodes_low c
 
 pub overflow_add-w1 : goal.overflow_add-w1
 unfolding marked
-overflow_add-w1 c = omega (arith, deepest_small _ _ _ _ _ _ (place_room c.args.st c.args.n c.args.p c.requires.2 c.requires.5.limits c.requires.5.order) (ap (λ r. marked r c.mark.new.w1) (sym c.in-Deepest.is) ∙ c.mark.ensures), c.body_depth-body.ensures, depth_small c.args.w1.now c.resolved-full.result c.args.p.count, c.larger.ensures)
+overflow_add-w1 c = omega (arith, deepest_small _ _ _ _ _ _ (place_room c.args.st c.args.n c.args.p c.requires.2 c.requires.5.limits c.requires.5.order) (ap (λ r. marked r c.mark.new.w1) (sym c.in-Some.is) ∙ c.mark.ensures), c.body_depth-body.ensures, depth_small c.args.w1.now c.resolved-full.result c.args.p.count, c.max.ensures)
 
 pub overflow_mul-w1 : goal.overflow_mul-w1
 unfolding marked
-overflow_mul-w1 c = omega (arith, deepest_small _ _ _ _ _ _ (place_room c.args.st c.args.n c.args.p c.requires.2 c.requires.5.limits c.requires.5.order) (ap (λ r. marked r c.mark.new.w1) (sym c.in-Deepest.is) ∙ c.mark.ensures), c.body_depth-body.ensures, depth_small c.args.w1.now c.resolved-full.result c.args.p.count, c.larger.ensures)
+overflow_mul-w1 c = omega (arith, deepest_small _ _ _ _ _ _ (place_room c.args.st c.args.n c.args.p c.requires.2 c.requires.5.limits c.requires.5.order) (ap (λ r. marked r c.mark.new.w1) (sym c.in-Some.is) ∙ c.mark.ensures), c.body_depth-body.ensures, depth_small c.args.w1.now c.resolved-full.result c.args.p.count, c.max.ensures)
 
 pub shape_of-w1 : goal.shape_of-w1
 shape_of-w1 c = simp length-set (c.put_words.auto.w1 ∙ c.mark.auto.w1)
 
 pub returns : goal.returns
 unfolding marked
-returns c = rw c.larger.ensures (place_on c.args.st c.args.n c.args.p c.args.w0.now _ c.requires.2 c.requires.0 c.requires.1 c.requires.5 c.resolved-full.ensures c.body_depth-body.ensures (ap (λ r. marked r c.mark.new.w1) (sym c.in-Deepest.is) ∙ c.mark.ensures) c.put_words.ensures c.requires.4 c.with_node.ensures)
+returns c = rw c.max.ensures (place_on c.args.st c.args.n c.args.p c.args.w0.now _ c.requires.2 c.requires.0 c.requires.1 c.requires.5 c.resolved-full.ensures c.body_depth-body.ensures (ap (λ r. marked r c.mark.new.w1) (sym c.in-Some.is) ∙ c.mark.ensures) c.put_words.ensures c.requires.4 c.with_node.ensures)

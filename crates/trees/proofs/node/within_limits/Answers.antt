@@ -1,15 +1,33 @@
 -- `within_limits` meets its contract.
-use Rattle.trees.proofs.PlaceLaws.{limits_number, limits_form, limits_operands, limits_nodes}
+use borrow.Author.Rules.{rules}
+use borrow.Author.Tests.{tests}
+use Rattle.sheet.specs.Limits.{is_node}
+use Rattle.trees.specs.Rules.{node_limits}
 use Rattle.trees.proofs.node.within_limits.Goals as goal
+use Rattle.trees.proofs.node.within_limits.Goals.{then-n-lt-MOST_NODES, else-n-lt-MOST_NODES, then-p, else-p}
 
-pub returns-then-n-ge-MOST_NODES : goal.returns-then-n-ge-MOST_NODES
-returns-then-n-ge-MOST_NODES c = limits_number _ _ _ c.if-n-ge-MOST_NODES.true
+pub returns-then-operands_within : goal.returns-then-operands_within
+unfolding node_limits is_node
+returns-then-operands_within c = elim c.if-p.branch [
+  | then-p w ↦ elim c.if-n-lt-MOST_NODES.branch [
+    | then-n-lt-MOST_NODES v ↦ search (rules, tests)
+    | else-n-lt-MOST_NODES v ↦ search (rules, tests)
+  ]
+  | else-p w ↦ elim c.if-n-lt-MOST_NODES.branch [
+    | then-n-lt-MOST_NODES v ↦ search (rules, tests)
+    | else-n-lt-MOST_NODES v ↦ search (rules, tests)
+  ]
+]
 
-pub returns-then-not-p : goal.returns-then-not-p
-returns-then-not-p c = search limits_form
-
-pub returns-then-not-operands_within : goal.returns-then-not-operands_within
-returns-then-not-operands_within c = search limits_operands
-
-pub returns : goal.returns
-returns c = search limits_nodes
+pub returns-else-operands_within : goal.returns-else-operands_within
+unfolding node_limits is_node
+returns-else-operands_within c = elim c.if-p.branch [
+  | then-p w ↦ elim c.if-n-lt-MOST_NODES.branch [
+    | then-n-lt-MOST_NODES v ↦ search (rules, tests)
+    | else-n-lt-MOST_NODES v ↦ search (rules, tests)
+  ]
+  | else-p w ↦ elim c.if-n-lt-MOST_NODES.branch [
+    | then-n-lt-MOST_NODES v ↦ search (rules, tests)
+    | else-n-lt-MOST_NODES v ↦ search (rules, tests)
+  ]
+]

@@ -6,5 +6,5 @@ use Rattle.types.proofs.order.letter_join.Goals as goal
 pub returns-then-k-l : goal.returns-then-k-l
 returns-then-k-l c = (omega arith, letter_same _ _ c.if-k-l.true)
 
-pub returns : goal.returns
-returns c = (omega arith, letter_apart _ _ c.if-k-l.false)
+pub returns-else-k-l : goal.returns-else-k-l
+returns-else-k-l c = (omega arith, letter_apart _ _ c.if-k-l.false)

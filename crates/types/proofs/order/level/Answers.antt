@@ -15,5 +15,5 @@ returns-then-l-eq0-2 c = search level_none
 pub returns-then-letter_below : goal.returns-then-letter_below
 returns-then-letter_below c = level_both _ _ _ _ _ c.if-k-eq0.false c.if-l-eq0-2.false _ (sym c.if-letter_below.true ∙ c.letter_below.ensures)
 
-pub returns : goal.returns
-returns c = level_both _ _ _ _ c.args.more c.if-k-eq0.false c.if-l-eq0-2.false _ (sym c.if-letter_below.false ∙ c.letter_below.ensures)
+pub returns-else-letter_below : goal.returns-else-letter_below
+returns-else-letter_below c = c.if-letter_below.false ∙ level_both _ _ _ _ c.args.more c.if-k-eq0.false c.if-l-eq0-2.false _ (sym c.if-letter_below.false ∙ c.letter_below.ensures)

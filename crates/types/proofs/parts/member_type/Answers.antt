@@ -5,5 +5,5 @@ use Rattle.types.proofs.parts.member_type.Goals as goal
 pub returns-then-t-eq0 : goal.returns-then-t-eq0
 returns-then-t-eq0 c = search member_ends
 
-pub returns : goal.returns
-returns c = search member_on
+pub returns-else-t-eq0 : goal.returns-else-t-eq0
+returns-else-t-eq0 c = search member_on

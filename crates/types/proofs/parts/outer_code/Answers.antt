@@ -5,5 +5,5 @@ use Rattle.types.proofs.parts.outer_code.Goals as goal
 pub returns-then-t-gt-BAG : goal.returns-then-t-gt-BAG
 returns-then-t-gt-BAG c = search outer_high
 
-pub returns : goal.returns
-returns c = search outer_low
+pub returns-else-t-gt-BAG : goal.returns-else-t-gt-BAG
+returns-else-t-gt-BAG c = search outer_low

@@ -5,4 +5,4 @@ use Rattle.types.proofs.parts.set_of_class.Goals as goal
 
 pub returns : goal.returns
 unfolding layer letter_of
-returns c = refl
+returns c = rw c.no_letter.ensures refl

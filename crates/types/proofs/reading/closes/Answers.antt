@@ -1,23 +1,16 @@
--- `closes` meets its contract. The loop's invariant: what is left is as many brackets as are left to count, exactly where s is d.
-use Prim.Native.Nat.{ℕ}
-use mathlib.Core.Path.{ap, sym}
+-- `closes` meets its contract.
+use mathlib.Core.Path.{sym, ◌∙◌}
 use borrow.Author.Rules.{rules}
-use native.Mathlib.Omega.{arith}
-use Rattle.types.specs.Reading.{closes}
-use Rattle.types.proofs.Closing.{closes_off, closes_stop, closes_more, closes_end}
+use lib.Dec.{eqb}
+use borrow.Author.Tests.{ne_eqb}
+use Rattle.std.proofs.lemmas.Iterator.{YieldsList-from_slice}
+use Rattle.std.proofs.lemmas.Iterator.Search.{all_from_yields_List}
+use Rattle.types.proofs.Closing.{closes_off, closes_all}
 use Rattle.types.proofs.reading.closes.Goals as goal
 
 pub returns-then-s-d : goal.returns-then-s-d
-returns-then-s-d c = sym (closes_off _ _ c.if-s-d.true)
+returns-then-s-d c =
+    all_from_yields_List (λ b. eqb b 41) _ _ _ c.all.ensures.ran (YieldsList-from_slice c.args.s.now cc) (λ x b q k. search rules) ∙ closes_all _ _ c.if-s-d.true
 
-pub loop-i-init : goal.loop-i-init
-loop-i-init c = (omega arith, ap (λ (k : ℕ). closes k c.args.s.now) (omega arith))
-
-pub returns-then-s-i-ne41 : goal.returns-then-s-i-ne41
-returns-then-s-i-ne41 c = search closes_stop
-
-pub loop-i-preserved : goal.loop-i-preserved
-loop-i-preserved c = search (closes_more, rules)
-
-pub returns : goal.returns
-returns c = search closes_end
+pub returns-else-s-d : goal.returns-else-s-d
+returns-else-s-d c = ne_eqb _ _ c.if-s-d.false ∙ sym (closes_off _ _ c.if-s-d.false)

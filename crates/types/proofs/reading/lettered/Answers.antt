@@ -1,15 +1,16 @@
 -- `lettered` meets its contract.
-use Rattle.types.proofs.TypeFields.{lettered_none, lettered_bad, lettered_big, lettered_is}
+use mathlib.Core.Path.{◌≡◌, ap, ◌∙◌}
+use borrow.Author.Rules.{rules}
+use Rattle.std.specs.Prelude.{Err}
+use Rattle.types.specs.Reading.{type_field}
+use Rattle.types.proofs.TypeFields.{lettered_none, lettered_misread, lettered_is}
 use Rattle.types.proofs.reading.lettered.Goals as goal
 
 pub returns-then-k-eq0 : goal.returns-then-k-eq0
 returns-then-k-eq0 c = search lettered_none
 
-pub returns-in-Bad : goal.returns-in-Bad
-returns-in-Bad c = search lettered_bad
+pub returns-in_err-g : goal.returns-in_err-g
+returns-in_err-g c = let e : c.from_residual.result ≡ Err c.in_err-g.field-0.0 = search rules in ap type_field e ∙ search (lettered_misread, c.in_err-g.was)
 
-pub returns-in-Big : goal.returns-in-Big
-returns-in-Big c = search lettered_big
-
-pub returns-in-Is : goal.returns-in-Is
-returns-in-Is c = search lettered_is
+pub returns : goal.returns
+returns c = search (lettered_is, c.in_ok-g.was)

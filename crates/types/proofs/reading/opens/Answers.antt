@@ -1,18 +1,19 @@
 -- `opens` meets its contract. The loop's invariant: the brackets passed and those that lead what is left are all that lead.
-use borrow.Author.Rules.{rules}
 use native.Mathlib.Omega.{arith}
-use mathlib.Core.Path.{refl}
+use mathlib.Core.Path.{◌≡◌, ◌∙◌}
+use Prim.Native.Nat.{◌/◌}
+use lib.ListN.{length}
 use Rattle.types.proofs.TypeFields.{opens_stop, opens_more, opens_end}
 use Rattle.types.proofs.reading.opens.Goals as goal
 
-pub loop-i-init : goal.loop-i-init
-loop-i-init c = (refl, omega arith, omega arith)
+pub returns-then-s-d-ne40 : goal.returns-then-s-d-ne40
+returns-then-s-d-ne40 c = record { is = opens_stop _ _ c.loop-d.invariant c.if-s-d-ne40.true; within = omega arith }
 
-pub returns-then-s-i-ne40 : goal.returns-then-s-i-ne40
-returns-then-s-i-ne40 c = search opens_stop
-
-pub loop-i-preserved : goal.loop-i-preserved
-loop-i-preserved c = search (opens_more, rules)
+pub loop-d-preserved : goal.loop-d-preserved
+loop-d-preserved c = opens_more _ _ c.loop-d.invariant (omega arith) c.if-s-d-ne40.false
 
 pub returns : goal.returns
-returns c = search opens_end
+returns c =
+    let d = c.loop-d.d in
+    let e : length c.args.s.now / 2 ≡ d = omega arith in
+    record { is = e ∙ opens_end _ d c.loop-d.invariant (omega arith); within = omega arith }

@@ -13,10 +13,10 @@ returns-in_default c = read_here _ _ _ _ _ _ _ c.declared-f.ensures _ c.in_defau
 
 pub returns-then-p-eq0 : goal.returns-then-p-eq0
 unfolding found
-returns-then-p-eq0 c = read_none _ _ _ _ _ _ _ c.declared-f.ensures c.in-Nothing.is (sym c.if-p-eq0.true ∙ c.parent-p.ensures) ∙ c.loop-f.invariant
+returns-then-p-eq0 c = read_none _ _ _ _ _ _ _ c.declared-f.ensures c.in-None.is (sym c.if-p-eq0.true ∙ c.parent-p.ensures) ∙ c.loop-f.invariant
 
 pub loop-f-smaller : goal.loop-f-smaller
 loop-f-smaller c = search parent_falls
 
 pub loop-f-preserved : goal.loop-f-preserved
-loop-f-preserved c = read_up _ _ _ _ _ _ _ c.declared-f.ensures _ c.in-Nothing.is c.parent-p.ensures c.if-p-eq0.false ∙ c.loop-f.invariant
+loop-f-preserved c = read_up _ _ _ _ _ _ _ c.declared-f.ensures _ c.in-None.is c.parent-p.ensures c.if-p-eq0.false ∙ c.loop-f.invariant

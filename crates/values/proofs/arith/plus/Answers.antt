@@ -1,12 +1,13 @@
 -- `values::arith::plus` meets its contract. Assumes nothing.
+use native.Mathlib.Omega.{arith}
 use Rattle.values.proofs.Arithmetic.{plus_low, plus_is, plus_high}
 use Rattle.values.proofs.arith.plus.Goals as goal
 
-pub returns-then-s-lt-ZERO : goal.returns-then-s-lt-ZERO
-returns-then-s-lt-ZERO c = plus_low c.if-s-lt-ZERO.true
+pub returns-in-Some : goal.returns-in-Some
+returns-in-Some c = let h = c.in-Some.ensures in plus_is c.in-Some.n (omega arith) c.if-n-lt-END.true
 
-pub returns-then-s-lt-END : goal.returns-then-s-lt-END
-returns-then-s-lt-END c = search plus_is
+pub returns-in_default : goal.returns-in_default
+returns-in_default c = let h = c.in-Some.ensures in plus_high (omega arith)
 
-pub returns-else-s-lt-END : goal.returns-else-s-lt-END
-returns-else-s-lt-END c = plus_high c.if-s-lt-END.false
+pub returns-in_default-2 : goal.returns-in_default-2
+returns-in_default-2 c = let h = c.in_default.ensures in plus_low (omega arith)

@@ -2,8 +2,8 @@
 use Rattle.values.proofs.Scanning.{integer_yes, integer_no}
 use Rattle.values.proofs.cells.is_integer.Goals as goal
 
-pub returns-in-Is : goal.returns-in-Is
-returns-in-Is c = search integer_yes
+pub returns-in-Some : goal.returns-in-Some
+returns-in-Some c = integer_yes c.integer_in.ensures c.in-Some.is
 
-pub returns-in-No : goal.returns-in-No
-returns-in-No c = search integer_no
+pub returns-in_default : goal.returns-in_default
+returns-in_default c = integer_no c.integer_in.ensures c.in_default.is

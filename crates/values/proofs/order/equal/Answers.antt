@@ -3,4 +3,4 @@ use Rattle.values.proofs.Comparing.{same_at}
 use Rattle.values.proofs.order.equal.Goals as goal
 
 pub returns : goal.returns
-returns c = same_at c.compare.ensures
+returns c = rw c.is_eq.ensures (same_at c.compare.ensures)

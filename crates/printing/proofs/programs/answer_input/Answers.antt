@@ -1,0 +1,11 @@
+-- `answer_input` meets its contract: the text is what was read. Assumes nothing.
+use mathlib.Core.Path.{refl}
+use lib.ListN.{take}
+use Rattle.printing.proofs.programs.answer_input.Goals as goal
+
+pub returns : goal.returns
+returns g c = (
+  take c.in_ok-n.n c.read_input.new.text,
+  c.in_ok-n.ensures.bytes.0,
+  record { shown = _; before = _; after = _; shows = refl; says = record { met = c.printed.ensures }; is = refl },
+)
