@@ -1,7 +1,7 @@
 """What a release's manifest says besides the sums of its files: for ./release."""
 import re
 
-from sources import CRATES, ROOT, called, checked, definitions, exported, function, library, programs, proofs_of
+from sources import CRATES, ROOT, called, checked, definitions, exported, function, library, programs, proofs_of, read_for
 
 PROGRAMS = """\
 Each program is proved to be safe and to end. What it prints is what the contracts of our functions that it calls say: for the bytes
@@ -49,7 +49,7 @@ def about_programs():
     for program in programs():
         yield f"program {program}"
         yield f"  file        bin/{program}"
-        yield from (f"  source      {path.relative_to(ROOT)}" for path in sorted((CRATES / program / "src").rglob("*.rt")))
+        yield from (f"  source      {path.relative_to(ROOT)}" for path in read_for(program))
         yield from (f"  proof       {path.relative_to(ROOT)}" for path in sorted((CRATES / program / "proofs").rglob("*.antt")))
         for path in called(program):
             ours = function(path)

@@ -59,6 +59,8 @@ def file_of(module):
 
 # a public function: its crate and name, its source below crates/, the line of its contract there, and what the contract says
 Call = collections.namedtuple("Call", "crate name source line clause")
+# what a file of definitions declares; a record or a kind may stand within a module or a mutual block
+DECLARED = r"^(?:(?:(?:unfoldable|abbrev) )?pub |(?: *pub )(?=record |data ))(?:record |data )?(\w+) "
 EXPORTED = r'^#\[unsafe\(no_mangle\)\]\npub extern "C" fn (\w+)\(.*?^(?=\{)'
 
 
@@ -93,13 +95,29 @@ def line_of(file, name):
     return next((at for at, line in enumerate((CRATES / file).read_text().splitlines(), 1) if head.match(line)), None)
 
 
-def called(program):
-    """The functions of other crates that a program calls, by their paths: ours, and those of the toolchain's libraries and its handle."""
-    text = "".join(re.sub(r"//.*", "", path.read_text()) for path in sorted((CRATES / program / "src").rglob("*.rt")))
+def code_of(path):
+    """A file of code without its comments."""
+    return re.sub(r"//.*", "", path.read_text())
+
+
+def read_for(program):
+    """The sources that stand between a program's input and its output: its own, and the modules `programs` of ours that it calls."""
+    own = sorted((CRATES / program / "src").rglob("*.rt"))
+    shared = {path.split("::")[0] for file in own for path in uses(code_of(file)).values() if "::programs::" in path}
+    return own + [CRATES / crate / "src/programs.rt" for crate in sorted(shared)]
+
+
+def calls_in(text):
+    """The functions of other crates that code calls, by their paths: ours, and those of the toolchain's libraries and its handle."""
     used = uses(text)
     names = dict.fromkeys(re.findall(r"(?<![\w:.])(?<!fn )([a-z]\w*(?:::\w+)*)\(", text))
     handle = dict.fromkeys(re.findall(r"\brt\.(\w+)\(", text))
     return [used.get(name, name) for name in names if name in used or "::" in name] + [f"HostRuntime::{name}" for name in handle]
+
+
+def called(program):
+    """The functions of other crates that the sources of a program call."""
+    return list(dict.fromkeys(path for file in read_for(program) for path in calls_in(code_of(file))))
 
 
 def function(path):
@@ -125,7 +143,7 @@ def definitions(call):
         source, said = todo.pop(0)
         cited, text = set(re.findall(r"[\w≡≤×]+", said)), (CRATES / source).read_text()
         named = [(file_of(module), there) for module, names, _ in imports(text) for there, here in names if here in cited]
-        named += [(source, name) for name in re.findall(r"^(?:(?:unfoldable|abbrev) )?pub (?:record |data )?(\w+) ", text, re.M) if name in cited]
+        named += [(source, name) for name in re.findall(DECLARED, text, re.M) if name in cited]
         for file, name in named:
             if file and (file, name) not in told and (line := line_of(file, name)):
                 told.add((file, name))

@@ -1,6 +1,6 @@
 -- The `let`s that a whole expression stands in, while it is read: the state of the loop, and one `let` more. Assumes nothing.
 use mathlib.Core.Path.{◌≡◌, refl, sym, subst}
-use mathlib.Core.Option.{none, some}
+use mathlib.Core.Option.{none}
 use mathlib.Core.List.{List, [], ◌∷◌, ◌++◌, append-nil}
 use Prim.Native.Nat.{ℕ, ◌+◌, ◌*◌, ◌≤◌, ◌<◌}
 use native.Mathlib.Omega.{arith}
@@ -13,13 +13,12 @@ use Rattle.sheet.specs.Grammar.Parser as parser
 use Rattle.tables.specs.Layout.{Kept}
 use Rattle.tables.proofs.Tables.{kept_refl, kept_then}
 use Rattle.tokens.specs.declared.Token.{Token}
-use Rattle.tokens.specs.Codes.{after_code}
 use Rattle.tokens.specs.Meanings.{onward, Ahead}
-use Rattle.phrases.specs.Meanings.{Further, AfterIs, after_one}
+use Rattle.phrases.specs.Meanings.{Further}
 use Rattle.emission.specs.Nodes.{HoldsNodes}
 use Rattle.emission.proofs.NodeLaws.{parsed_kept}
 use Rattle.importer.specs.Answers.{Answers}
-use Rattle.importer.specs.Lets.{SameLets, Frame, value, body, counted, value_nodes, LetsLie, no_lets, HeadAt, broken_head, a_head}
+use Rattle.importer.specs.Lets.{SameLets, Frame, value, body, counted, value_nodes, LetsLie, no_lets, HeadAt, no_head, broken_head, a_head}
 use Rattle.importer.specs.Descent.{Room, FoundAt, found_none}
 use Rattle.importer.proofs.LetLaws.{lets_refl, lets_less, lets_then, values_size}
 use Rattle.importer.proofs.WholeLaws.{let_broken, Outer, out_none, none_outer, pushed, unread as unread_in}
@@ -99,51 +98,51 @@ module _ {k : ℕ} {s : Bytes} {t : Token} {n d : ℕ} {before : List ℕ} {u : 
       let i = unread_few g.frames in
       (omega arith, omega arith)
 
-  -- a `let` begins at u, and t' is the token after it
-  module _ {p : Optional Token} (y : AfterIs s u 32 p) {t' : Token} (j : p ≡ Some t') where
-    after_let : (after_code 32 (onward s u) ≡ some (onward s t')) × Further s u t'
-    after_let = go (rw j at y)
+  module _ {r : Optional (Optional Token)} {v : List ℕ} (h : HeadAt s u lets w r v) where
+    pub head_kept : Kept w v
+    head_kept = go h
       where
-        go : AfterIs s u 32 (Some t') → (after_code 32 (onward s u) ≡ some (onward s t')) × Further s u t'
-        go (after_one a f) = (a, f)
+        go : {r : Optional (Optional Token)} {v : List ℕ} → HeadAt s u lets w r v → Kept w v
+        go (no_head a) = kept_refl w
+        go (broken_head q a b) = kept_refl w
+        go (a_head q i a b c f o) = o.kept
 
-    module _ {r : Optional Token} {v : List ℕ} (h : HeadAt s t' lets w r v) where
-      pub waiting_broken : r ≡ None → FoundAt whole k s t n d before None v
-      waiting_broken e = go (rw e at h)
-        where
-          go : {v : List ℕ} → HeadAt s t' lets w None v → FoundAt whole k s t n d before None v
-          go (broken_head b) = found_none (g.on none none (let_broken (onward s u) (onward s t') after_let.0 b) out_none) g.kept
+    pub waiting_broken : r ≡ Some None → FoundAt whole k s t n d before None v
+    waiting_broken e = go (rw e at h)
+      where
+        go : {v : List ℕ} → HeadAt s u lets w (Some None) v → FoundAt whole k s t n d before None v
+        go (broken_head q a b) = found_none (g.on none none (let_broken (onward s u) q a b) out_none) g.kept
 
-      pub head_further : {u' : Token} → r ≡ Some u' → Further s u u'
-      head_further {u'} e = go (rw e at h)
-        where
-          go : {v : List ℕ} → HeadAt s t' lets w (Some u') v → Further s u u'
-          go (a_head i b c f o) = record { ahead = f.ahead; from = let q = after_let.1.from in let z = f.from in omega arith }
+    pub head_further : {u' : Token} → r ≡ Some (Some u') → Further s u u'
+    head_further {u'} e = go (rw e at h)
+      where
+        go : {v : List ℕ} → HeadAt s u lets w (Some (Some u')) v → Further s u u'
+        go (a_head q i a b c f o) = f
 
-      -- one `let` more
-      pub waiting_head : {u' : Token} → r ≡ Some u' → Waiting k s t n d before u' nodes (lets + 1) (unread + 1) v
-      unfolding counted value_nodes unread_in
-      waiting_head {u'} e = go (rw e at h)
-        where
-          go : {v : List ℕ} → HeadAt s t' lets w (Some u') v → Waiting k s t n d before u' nodes (lets + 1) (unread + 1) v
-          go (a_head i b c f o) = record {
-            frames = value i ∷ g.frames;
-            waits = let z = g.waits in omega arith;
-            sum = let z = g.sum in omega arith;
-            least = let z = g.least in omega arith;
-            ahead = f.ahead;
-            from = let z = g.from in let y = f.from in let q = after_let.1.from in omega arith;
-            lying = λ l.
-                let y = g.lying (omega arith) in
-                record {
-                  lets_are = let z = y.lets_are in omega arith;
-                  nodes_are = y.nodes_are;
-                  lies = o.lies d n g.frames i c y.lets_are (omega arith) y.lies;
-                  holds = λ xs z x.
-                      holds_below (let p = length-append xs (value_nodes n g.frames) in let m = values_size n g.frames in let j = y.nodes_are in omega arith) o.below
-                      (y.holds xs z x);
-                };
-            same = lets_then g.same (lets_less d (omega (arith, g.least)) o.lets);
-            kept = kept_then g.kept o.kept;
-            on = λ x z y p. let m = pushed (onward s u) (onward s t') after_let.0 i (onward s u') b g.frames x z y p in g.on m.0 z m.1 m.2;
-          }
+    -- one `let` more
+    pub waiting_head : {u' : Token} → r ≡ Some (Some u') → Waiting k s t n d before u' nodes (lets + 1) (unread + 1) v
+    unfolding counted value_nodes unread_in
+    waiting_head {u'} e = go (rw e at h)
+      where
+        go : {v : List ℕ} → HeadAt s u lets w (Some (Some u')) v → Waiting k s t n d before u' nodes (lets + 1) (unread + 1) v
+        go (a_head q i a b c f o) = record {
+          frames = value i ∷ g.frames;
+          waits = let z = g.waits in omega arith;
+          sum = let z = g.sum in omega arith;
+          least = let z = g.least in omega arith;
+          ahead = f.ahead;
+          from = let z = g.from in let y = f.from in omega arith;
+          lying = λ l.
+              let y = g.lying (omega arith) in
+              record {
+                lets_are = let z = y.lets_are in omega arith;
+                nodes_are = y.nodes_are;
+                lies = o.lies d n g.frames i c y.lets_are (omega arith) y.lies;
+                holds = λ xs z x.
+                    holds_below (let p = length-append xs (value_nodes n g.frames) in let m = values_size n g.frames in let j = y.nodes_are in omega arith) o.below
+                    (y.holds xs z x);
+              };
+          same = lets_then g.same (lets_less d (omega (arith, g.least)) o.lets);
+          kept = kept_then g.kept o.kept;
+          on = λ x z y p. let m = pushed (onward s u) q a i (onward s u') b g.frames x z y p in g.on m.0 z m.1 m.2;
+        }

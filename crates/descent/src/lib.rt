@@ -12,7 +12,6 @@ ghost use Rattle.importer.specs.Imports.{Imports};
 use importer::leaves::{negate, nots};
 use importer::lets::{close_lets, end_value, let_head};
 use importer::puts::joined;
-use memory::codes::LET_IN;
 use phrases::words::{after, sign};
 use terms::postfix;
 use tokens::{Token, next_token, signs};
@@ -43,10 +42,9 @@ fn whole(s: &[u8], t: Token, w2: &mut [u64], n: usize, d: usize, k: u64) -> Opti
     let mut lets = d;
     let mut unread: usize = 0;
     loop {
-        let begun = after(s, u, LET_IN);
-        match begun {
+        match let_head(s, u, w2, lets) {
             Some(head) => {
-                u = let_head(s, head, w2, lets)?;
+                u = head?;
                 lets += 1;
                 unread += 1;
             }

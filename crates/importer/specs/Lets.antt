@@ -4,13 +4,16 @@
 use Rattle.std.specs.Prelude.{◌≡◌, List, [], ◌∷◌, ◌++◌, ℕ, suc, ◌+◌, ◌≤◌, ◌<◌, length, get_or, Option as Optional, Some, None}
 use Rattle.std.proofs.Math.Option.{none, some}
 use Rattle.memory.specs.Map as memory
+use Rattle.memory.specs.Codes as code
 use Rattle.sheet.specs.Sizes.{most_nodes}
 use Rattle.sheet.specs.Text.{Bytes}
 use Rattle.sheet.specs.Lines.{Shape}
 use Rattle.sheet.specs.Grammar.Trees.{Tree, let_in, two, count as nodes_in, shapes}
 use Rattle.sheet.specs.Grammar.Parser.{binding}
+use Rattle.sheet.specs.Grammar.Tokens.{Tokens}
 use Rattle.tables.specs.Layout.{Kept}
 use Rattle.tokens.specs.declared.Token.{Token}
+use Rattle.tokens.specs.Codes.{after_code}
 use Rattle.tokens.specs.Meanings.{onward}
 use Rattle.phrases.specs.Meanings.{Further}
 use Rattle.shapes.specs.Fields.{cut}
@@ -83,10 +86,17 @@ pub record LetOpened (d v : ℕ) (before after : List ℕ) : Type 0 where
   pub kept : Kept before after
 
 -- `v1 =` at t, after a `let`, which is the d-th
-pub data HeadAt (s : Bytes) (t : Token) (d : ℕ) (before : List ℕ) : Optional Token → List ℕ → Type 0 where
-  broken_head : binding (onward s t) ≡ none → HeadAt s t d before None before
-  a_head : {u : Token} {after : List ℕ} {v : ℕ} (i : ℕ) → binding (onward s t) ≡ some (i, onward s u) → v ≡ cut i → Further s t u → LetOpened d v before after
-      → HeadAt s t d before (Some u) after
+pub data BoundAt (s : Bytes) (t : Token) (d : ℕ) (before : List ℕ) : Optional Token → List ℕ → Type 0 where
+  not_bound : binding (onward s t) ≡ none → BoundAt s t d before None before
+  a_bound : {u : Token} {after : List ℕ} {v : ℕ} (i : ℕ) → binding (onward s t) ≡ some (i, onward s u) → v ≡ cut i → Further s t u → LetOpened d v before after
+      → BoundAt s t d before (Some u) after
+
+-- `let v1 =` at t, which opens the d-th `let`; a `let` may break off
+pub data HeadAt (s : Bytes) (t : Token) (d : ℕ) (before : List ℕ) : Optional (Optional Token) → List ℕ → Type 0 where
+  no_head : after_code code.let_in (onward s t) ≡ none → HeadAt s t d before None before
+  broken_head : (r : Tokens) → after_code code.let_in (onward s t) ≡ some r → binding r ≡ none → HeadAt s t d before (Some None) before
+  a_head : {u : Token} {after : List ℕ} {v : ℕ} (r : Tokens) (i : ℕ) → after_code code.let_in (onward s t) ≡ some r → binding r ≡ some (i, onward s u)
+      → v ≡ cut i → Further s t u → LetOpened d v before after → HeadAt s t d before (Some (Some u)) after
 
 -- the value of the d-th `let` ends with node m - 1
 pub record ValueEnded (d m : ℕ) (before after : List ℕ) : Type 0 where

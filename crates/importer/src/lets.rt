@@ -2,11 +2,11 @@
 ghost use Rattle.std.specs.Prelude.{◌+◌, ◌≤◌, ◌<◌, length};
 ghost use Rattle.sheet.specs.Sizes.{least_words};
 ghost use Rattle.tokens.specs.Meanings.{Ahead};
-ghost use Rattle.importer.specs.Lets.{HeadAt, LetOpened, ValueEnded, LetsClosed};
+ghost use Rattle.importer.specs.Lets.{BoundAt, HeadAt, LetOpened, ValueEnded, LetsClosed};
 
 use emission::emit;
 use memory::codes::LET_IN;
-use phrases::words::binding;
+use phrases::words::{after, binding};
 use shapes::built::built;
 use tokens::Token;
 
@@ -22,13 +22,22 @@ fn open_let(w2: &mut [u64], lets: usize, variable: u64)
 }
 
 // `v1 =`, after `let`: opens the `let`, whose value comes next.
-pub fn let_head(s: &[u8], t: Token, w2: &mut [u64], lets: usize) -> Option<Token>
+pub fn bound_head(s: &[u8], t: Token, w2: &mut [u64], lets: usize) -> Option<Token>
     requires { Ahead s.now t × (least_words ≤ length w2.old) }
-    ensures { HeadAt s.now t lets w2.old result w2.new }
+    ensures { BoundAt s.now t lets w2.old result w2.new }
 {
     let (n, next) = binding(s, t)?;
     open_let(w2, lets, n);
     Some(next)
+}
+
+// `let v1 =`, if a `let` begins here: the token after it, or none where the `let` breaks off.
+pub fn let_head(s: &[u8], t: Token, w2: &mut [u64], lets: usize) -> Option<Option<Token>>
+    requires { Ahead s.now t × (least_words ≤ length w2.old) }
+    ensures { HeadAt s.now t lets w2.old result w2.new }
+{
+    let begun = after(s, t, LET_IN)?;
+    Some(bound_head(s, begun, w2, lets))
 }
 
 // Where the root of the last of n `let`s lies: n words from here.

@@ -112,8 +112,10 @@ pub fn accept_sheet(
     requires known { Known st w0.now w1.old }
     ensures { AcceptsSheet st w0.now w1.old w2.old w1.new w2.new result }
 {
-    accept(w0, st, w1, w2)?;
-    Ok(st)
+    match accept(w0, st, w1, w2) {
+        Ok(()) => Ok(st),
+        Err(refused) => Err(refused),
+    }
 }
 
 // Opens a text for a call: it is read, and all its definitions and rules are typed. Every call begins so, and refuses alike.

@@ -5,18 +5,11 @@ use mathlib.Core.Option.{Option, none, some}
 use mathlib.Core.List.{List}
 use Prim.Native.Nat.{ℕ, suc, ◌+◌, ◌-◌, ◌*◌, ◌%◌, ◌<◌, ◌≤◌}
 use native.Mathlib.Omega.{arith}
-use lib.ListN.{length, get_or, take, drop, length-drop}
-use lib.Seq.{slice, length-take-le, get_or-take, get_or-drop}
+use lib.ListN.{length, get_or}
+use lib.Seq.{slice}
 use lib.Dec.{eqb}
 use borrow.Author.Tests.{lt-ltb, le-ltb, eq-eqb, ne_eqb, eqb-true, eqb-false}
-use Rattle.std.specs.Prelude.{if◌then◌else◌, Result as Fallible, Ok, Err, Option as Optional, Some, None}
-use Rattle.std.specs.List.{HoldsAt}
-use Rattle.std.specs.Result.{result_ok}
-use Rattle.std.specs.List.Sorted.{IsSearchInRange, IsBinarySearchResult}
-use Rattle.std.specs.Ordering.{nat_cmp}
-use Rattle.std.proofs.Common.{Equal}
-use Rattle.std.proofs.lemmas.Cmp.{ranked}
-use Rattle.std.proofs.lemmas.List.Sorted.{searched}
+use Rattle.std.specs.Prelude.{if◌then◌else◌, Option as Optional, Some, None}
 use Rattle.laws.proofs.Orders.{Three, less, same, over, three}
 use Rattle.memory.specs.Map as memory
 use Rattle.ocl.specs.Types.{class, simple_subtype}
@@ -66,39 +59,45 @@ owner_is {st} {w0} {i} {at} h e = record {
 abbrev pub Ascending : List ℕ → ℕ → Type 0
 Ascending w0 slots = (j k : ℕ) → j < k → k < slots → key_at w0 j < key_at w0 k
 
--- the keys of n slots, as they are searched
-abbrev pub keys_in : List ℕ → ℕ → List ℕ
-keys_in w0 n = take n (drop memory.keys w0)
+-- the slots before low are under the key, those from high on are over it
+pub record Between (w0 : List ℕ) (slots key low high : ℕ) : Type 0 where
+  pub up : low ≤ high
+  pub within : high ≤ slots
+  pub under : Ascending w0 slots → (j : ℕ) → j < low → key_at w0 j < key
+  pub above : Ascending w0 slots → (j : ℕ) → high ≤ j → j < slots → key < key_at w0 j
 
-module _ (w0 : List ℕ) (slots key : ℕ) {n : ℕ} (e : n ≡ slots) (room : memory.keys + slots ≤ length w0) where
-  keys_long : length (keys_in w0 n) ≡ slots
-  keys_long = length-take-le n (drop memory.keys w0) (omega (arith, length-drop memory.keys w0)) ∙ e
+module _ {w0 : List ℕ} {slots key low high : ℕ} where
+  pub all_open : slots ≡ high → low ≡ 0 → Between w0 slots key low high
+  all_open e f = record { up = omega arith; within = omega arith; under = λ a j h. absurd (omega arith); above = λ a j h k. absurd (omega arith) }
 
-  key_in : (j : ℕ) → j < slots → get_or (keys_in w0 n) j 0 ≡ key_at w0 j
-  key_in j h = get_or-take n (drop memory.keys w0) j 0 (omega arith) ∙ get_or-drop memory.keys w0 j 0
+  module _ (b : Between w0 slots key low high) where
+    pub go_up : (mid : ℕ) → low ≤ mid → mid < high → key_at w0 mid < key → Between w0 slots key (mid + 1) high
+    go_up mid l h u =
+        let w = b.within in
+        record { up = omega arith; within = w; above = b.above; under = λ a j k. by a j k (three j mid) }
+      where
+        by : Ascending w0 slots → (j : ℕ) → j < mid + 1 → Three j mid → key_at w0 j < key
+        by a j k (less x) = let w = b.within in let z = a j mid x (omega arith) in omega arith
+        by a j k (same x) = rw x u
+        by a j k (over x) = absurd (omega arith)
 
-  slot_found : (j : ℕ) → j < length (keys_in w0 n) → HoldsAt (λ y. nat_cmp y key ≡ Equal) (keys_in w0 n) j → FindsSlot w0 slots key (Some j)
-  slot_found j h k = let l : j < slots = omega (arith, keys_long) in (l, sym (key_in j l) ∙ ranked _ _ Equal (sym (k 0)))
+    pub go_down : (mid : ℕ) → low ≤ mid → mid < high → (key_at w0 mid ≡ key → ⊥) → key ≤ key_at w0 mid → Between w0 slots key low mid
+    go_down mid l h n u =
+        let w = b.within in
+        record { up = l; within = omega arith; under = b.under; above = λ a j k m. by a j k m (three j mid) }
+      where
+        by : Ascending w0 slots → (j : ℕ) → mid ≤ j → j < slots → Three j mid → key < key_at w0 j
+        by a j k m (less x) = absurd (omega arith)
+        by a j k m (same x) = rw x (omega arith)
+        by a j k m (over x) = let z = a mid j x m in omega arith
 
-  keys_rise : Ascending w0 slots → (i j : ℕ) → i ≤ j → j < length (keys_in w0 n) → get_or (keys_in w0 n) i 0 ≤ get_or (keys_in w0 n) j 0
-  keys_rise a i j h k = let l : j < slots = omega (arith, keys_long) in by l (three i j)
-    where
-      by : j < slots → Three i j → get_or (keys_in w0 n) i 0 ≤ get_or (keys_in w0 n) j 0
-      by l (less x) = omega (arith, a i j x l, key_in i (omega arith), key_in j l)
-      by l (same x) = rw x (omega arith)
-      by l (over x) = absurd (omega arith)
-
-  none_there : (i : ℕ) → IsBinarySearchResult (λ y. nat_cmp y key) (keys_in w0 n) (Err i) → FindsSlot w0 slots key None
-  none_there i h a j k q = by (searched (keys_in w0 n) key (Err i) h (keys_rise a)) (three j i)
-    where
-      by : (i ≤ length (keys_in w0 n)) × ((k : ℕ) → k < i → get_or (keys_in w0 n) k 0 < key) × ((k : ℕ) → i ≤ k → k < length (keys_in w0 n) → key < get_or (keys_in w0 n) k 0) → Three j i → ⊥
-      by s (less x) = omega (arith, s.1 j x, key_in j k)
-      by s (same x) = omega (arith, s.2 j (omega arith) (omega (arith, keys_long)), key_in j k)
-      by s (over x) = omega (arith, s.2 j (omega arith) (omega (arith, keys_long)), key_in j k)
-
-  pub slot_searched : (r : Fallible ℕ ℕ) → IsSearchInRange r (length (keys_in w0 n)) → IsBinarySearchResult (λ y. nat_cmp y key) (keys_in w0 n) r → FindsSlot w0 slots key (result_ok r)
-  slot_searched (Ok j) h k = slot_found j h k
-  slot_searched (Err i) h k = none_there i k
+    pub none_there : high ≤ low → FindsSlot w0 slots key None
+    none_there h a j k e = by (three j low)
+      where
+        by : Three j low → ⊥
+        by (less x) = let z = b.under a j x in omega arith
+        by (same x) = let z = b.above a j (omega arith) k in omega arith
+        by (over x) = let z = b.above a j (omega arith) k in omega arith
 
 same_slot : (w0 : List ℕ) (slots : ℕ) → Ascending w0 slots → (j k : ℕ) → j < slots → k < slots → key_at w0 j ≡ key_at w0 k → j ≡ k
 same_slot w0 slots a j k h i e = by (three j k)

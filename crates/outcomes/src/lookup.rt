@@ -36,14 +36,27 @@ pub fn owner(tables: &[u64], st: Counts, i: u64) -> u64
     tables[memory::OWNERS + wide(i)]
 }
 
-// The slot with this key, by binary search: slots stand in ascending order of their keys.
+// The slot with this key, by binary search: slots stand in ascending order of their keys. The search ends where the key is met; the
+// library's goes on, and `collect` over many objects took half as long again with it.
 pub fn find_slot(tables: &[u64], slots: usize, key: u64) -> Option<usize>
     requires { (slots ≤ most_values) × (least_words ≤ length tables.now) }
     ensures { FindsSlot tables.now slots key result }
 {
-    tables[memory::KEYS..memory::KEYS + slots]
-        .binary_search(&key)
-        .ok()
+    let mut low = 0;
+    let mut high = slots;
+    while low < high {
+        let mid = low + (high - low) / 2;
+        let k = tables[memory::KEYS + mid];
+        if k == key {
+            return Some(mid);
+        }
+        if k < key {
+            low = mid + 1;
+        } else {
+            high = mid;
+        }
+    }
+    None
 }
 
 // Where slot j's cells start; for the place after the last slot, where all cells end.

@@ -1,8 +1,15 @@
 -- What a program writes for the text that it has read.
-use Rattle.std.specs.Prelude.{ℕ, ◌≤◌, ◌≡◌, length, take}
+use Rattle.std.specs.Prelude.{ℕ, ◌≤◌, ◌≡◌, List, length, take}
 use Rattle.std.specs.Fn.{Shared, FnReturns}
 use denote.Ref.{Bor, MutBor}
+use Rattle.std.specs.Io.KnownBytes.{IsAtEnd}
+use Rattle.std.specs.declared.option.Option.{Option}
+use Rattle.sheet.specs.Sizes.{most_bytes}
 use Rattle.sheet.specs.Text.{Bytes}
+
+-- a text that a reader gave is all that it had, unless it is longer than a sheet may be
+abbrev pub Whole : Option (List ℕ) → Bytes → Type 0
+Whole left text = length text ≤ most_bytes → IsAtEnd left
 
 module _ {F : Type 0} (g : Shared F (Bor Bytes × (MutBor Bytes × Unit {0})) (ℕ × (MutBor Bytes × Unit {0}))) (f : F) where
   -- no call answers more than its output holds

@@ -5,10 +5,9 @@ use mathlib.Core.Option.{Option}
 use mathlib.Core.List.{List, [], ◌∷◌, ◌++◌, map}
 use Prim.Native.Nat.{ℕ, zero, suc, ◌+◌, ◌*◌, ◌/◌, ◌≤◌, ◌<◌}
 use native.Mathlib.Omega.{arith}
-use lib.ListN.{length, get_or, take, drop, replicate, set, length-set, length-replicate, get_or-append, get_or-replicate}
-use lib.Seq.{drop-drop, get_or-take, get_or-drop, get_or-append-add, get_or-set_same, get_or-set_other, length-take-le}
-use borrow.Rule.Slice.PartMut.{put_mid, post_of, take_put, same_len_mid, mid_len}
-use Rattle.std.proofs.lemmas.Slice.{drop-put_mid}
+use lib.ListN.{length, get_or, take, drop, replicate, set, length-set, length-replicate, get_or-replicate}
+use borrow.Author.Count.{below_more}
+use lib.Seq.{drop-drop, get_or-take, get_or-drop, get_or-set_same, get_or-set_other, take-set-le, drop-set-lt}
 use lib.Dec.{eqb}
 use borrow.Author.Tests.{eqb-true, eqb-false}
 use Rattle.std.specs.Prelude.{if◌then◌else◌}
@@ -28,20 +27,35 @@ use Rattle.judgements.specs.Replies.{write_marks}
 use Rattle.rules.specs.Accepted.{InWords, MarksIn}
 use Rattle.rules.specs.All.{KeepsMarks}
 
--- ---- copying
+-- ---- copying, of which i words are done
 
-pub marks_copied : {w2 before part : List ℕ} → 8192 ≤ length before → 8192 ≤ length w2 → part ≡ take 768 w2 → KeepsMarks w2 before (put_mid memory.marks 768 before part)
-marks_copied {w2} {before} {part} room long e =
-    let front : length (take memory.marks before) ≡ memory.marks = length-take-le memory.marks before (omega arith) in
-    let l : length part ≡ 768 = ap length e ∙ length-take-le 768 w2 (omega arith) in
+pub record Copying (w2 before : List ℕ) (i : ℕ) (now : List ℕ) : Type 0 where
+  pub within : i ≤ 768
+  pub at : (p : ℕ) → p < i → get_or now (memory.marks + p) 0 ≡ get_or w2 p 0
+  pub below : take memory.nodes_end now ≡ take memory.nodes_end before
+  pub above : drop memory.depths now ≡ drop memory.depths before
+  pub size : length now ≡ length before
+
+pub copy_none : (w2 before : List ℕ) → Copying w2 before 0 before
+copy_none w2 before = record { within = omega arith; at = λ p h. absurd (omega arith); below = refl; above = refl; size = refl }
+
+pub copy_more : {w2 before now : List ℕ} {i : ℕ} → 8192 ≤ length before → i < 768 → Copying w2 before i now
+    → Copying w2 before (i + 1) (set now (memory.marks + i) (get_or w2 i 0))
+copy_more {w2} {before} {now} {i} room h c =
+    let x = get_or w2 i 0 in
+    let v = set now (memory.marks + i) x in
     record {
-      at = λ p h.
-          ap (λ (i : ℕ). get_or (put_mid memory.marks 768 before part) (i + p) 0) (sym front) ∙ get_or-append-add (take memory.marks before) (part ++ post_of memory.marks 768 before) p 0
-          ∙ get_or-append part (post_of memory.marks 768 before) 0 p (omega arith) ∙ ap (λ (x : List ℕ). get_or x p 0) e ∙ get_or-take 768 w2 p 0 h;
-      below = take_put memory.marks 768 before part (omega arith);
-      above = drop-put_mid memory.marks 768 before part memory.depths (omega arith) (omega arith) l;
-      size = same_len_mid memory.marks 768 before part (l ∙ sym (mid_len memory.marks memory.depths before (omega arith)));
+      within = omega arith;
+      at = below_more (λ (p : ℕ). get_or v (memory.marks + p) 0 ≡ get_or w2 p 0) i
+          (λ p l. get_or-set_other now (memory.marks + i) (memory.marks + p) x 0 (λ e. absurd (omega arith)) ∙ c.at p l)
+          (get_or-set_same now (memory.marks + i) x 0 (omega (arith, c.size)));
+      below = take-set-le memory.nodes_end now (memory.marks + i) x (omega arith) ∙ c.below;
+      above = drop-set-lt memory.depths now (memory.marks + i) x (omega arith) ∙ c.above;
+      size = length-set now (memory.marks + i) x ∙ c.size;
     }
+
+pub copy_done : {w2 before now : List ℕ} {i : ℕ} → 768 ≤ i → Copying w2 before i now → KeepsMarks w2 before now
+copy_done h c = record { at = λ p l. c.at p (omega (arith, c.within)); below = c.below; above = c.above; size = c.size }
 
 -- ---- what does not change
 

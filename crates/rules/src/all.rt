@@ -52,12 +52,15 @@ fn type_all(w0: &[u64], st: Counts, w1: &[u64], w2: &mut [u64]) -> Result<(), Re
     Ok(())
 }
 
-// Copies the marks that typing left in w2 to w1: evaluation needs w2 for its values.
+// Copies the marks that typing left in w2 to w1: evaluation needs w2 for its values. It is a loop, since the archive for C would need
+// `memmove` for `copy_from_slice`.
 fn keep_marks(w2: &[u64], w1: &mut [u64])
     requires { (least_words ≤ length w1.old) × (least_words ≤ length w2.now) }
     ensures { KeepsMarks w2.now w1.old w1.new }
 {
-    w1[memory::MARKS..memory::DEPTHS].copy_from_slice(&w2[..memory::NODES]);
+    for p in 0..memory::NODES {
+        w1[memory::MARKS + p] = w2[p];
+    }
 }
 
 // Types the definitions and then the rules of the sheet that lies in the words, and keeps their marks.

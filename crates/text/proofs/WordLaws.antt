@@ -1,15 +1,15 @@
 -- Laws of the kinds of bytes, and of words. Assumes nothing.
-use Prim.Native.Nat.{ℕ, suc, ◌<◌, ◌≤◌}
+use Prim.Native.Nat.{ℕ, suc, ◌+◌, ◌<◌, ◌≤◌}
 use mathlib.Core.Path.{◌≡◌, refl, sym, ap, ◌∙◌}
 use mathlib.Core.Bool.{Bool, true, false, not, ◌&&◌, true≢false}
 use mathlib.Core.List.{List, [], ◌∷◌}
 use native.Mathlib.Omega.{arith}
-use borrow.Author.Tests.{ne_eqb, eqb-true, lt-leb, le-leb}
+use borrow.Author.Tests.{eq-eqb, ne_eqb, eqb-true, lt-leb, le-leb}
 use lib.Dec.{eqb, leb}
-use lib.Pointwise.{pointwise}
-use lib.ListN.{length, get_or}
+use lib.ListN.{length, get_or, drop, drop_of_length-le}
 use Rattle.std.specs.Prelude.{if◌then◌else◌}
 use Rattle.laws.specs.Lists.{all_of}
+use Rattle.laws.proofs.Parts.{at_next}
 use Rattle.sheet.specs.Text.{Bytes, bytes, is_digit}
 use Rattle.sheet.specs.Lines.{is}
 use Rattle.text.specs.Words.{byte_kind, only_byte}
@@ -125,13 +125,19 @@ other_length (b ∷ s) (c ∷ t) h = go (eqb b c) (other_length s t (λ e. h (ap
     go true q = q
     go false q = refl
 
--- what `==` of two slices says
-pub same_bytes : (f w : Bytes) → pointwise eqb f w ≡ is f w
-unfolding is
-same_bytes [] [] = refl
-same_bytes [] (c ∷ t) = refl
-same_bytes (b ∷ s) [] = refl
-same_bytes (b ∷ s) (c ∷ t) = ap (λ u. eqb b c && u) (same_bytes s t)
+-- the turns of `same`
+module _ (f w : Bytes) (i : ℕ) (long : length f ≡ length w) (inv : is (drop i f) (drop i w) ≡ is f w) where
+  pub same_end : length f ≤ i → true ≡ is f w
+  unfolding is
+  same_end h = rw (drop_of_length-le f h, drop_of_length-le w {i = i} (omega arith)) at inv
+
+  pub same_not : i < length f → (get_or f i 0 ≡ get_or w i 0 → ⊥) → false ≡ is f w
+  unfolding is
+  same_not h q = rw (at_next 0 f i h, at_next 0 w i (omega arith), ne_eqb _ _ q) at inv
+
+  pub same_next : i < length f → get_or f i 0 ≡ get_or w i 0 → is (drop (i + 1) f) (drop (i + 1) w) ≡ is f w
+  unfolding is
+  same_next h q = rw (at_next 0 f i h, at_next 0 w i (omega arith), eq-eqb _ _ q) at inv
 
 -- ---- a line's letter by its kind
 

@@ -34,11 +34,19 @@ pub fn letter(f: &[u8]) -> u8
     }
 }
 
-// Whether the field is this word.
+// Whether the field is this word. Words are short: a loop takes less than `==` of slices does, which reading a text shows.
 pub fn same(f: &[u8], w: &[u8]) -> bool
     ensures { result ≡ is f.now w.now }
 {
-    f == w
+    if f.len() != w.len() {
+        return false;
+    }
+    for i in 0..f.len() {
+        if f[i] != w[i] {
+            return false;
+        }
+    }
+    true
 }
 
 // The code of the field among words of its own length, with one byte between two words; NO_FORM if it is none of them.

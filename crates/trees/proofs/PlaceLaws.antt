@@ -5,7 +5,7 @@ use mathlib.Core.Option.{Option, none, some, none-ne-some}
 use mathlib.Core.List.{List, [], ◌∷◌, map}
 use Prim.Native.Nat.{ℕ, ◌-◌, ◌<◌, ◌≤◌}
 use native.Mathlib.Omega.{arith}
-use borrow.Author.Tests.{eq-eqb, ne_eqb, eqb-true, eqb-false, ltb-true, le-leb, lt-leb, not-true}
+use borrow.Author.Tests.{eq-eqb, ne_eqb, eqb-true, eqb-false, lt-ltb, ltb-true, le-leb, lt-leb, not-true, not-false}
 use lib.Dec.{eqb, leb, ltb}
 use lib.ListN.{length}
 use Rattle.laws.specs.Lists.{all_of}
@@ -36,6 +36,15 @@ use Rattle.memory.specs.declared.refusals.Refusal.TheVariants.{CallUpward, OutOf
 -- ---- what the code's tests answer
 
 module _ (st : Counts) (n : ℕ) (p : Parsed) where
+  module _ {b : Bool} (told : b ≡ all_of is_node (operands_at p.words p.count)) where
+    pub limits_operands : n < 768 → not p.within ≡ false → b ≡ false → false ≡ node_limits st n p
+    unfolding node_limits is_node
+    limits_operands h k q = rw (lt-ltb n 768 h, not-false p.within k, ← told, q)
+
+    pub limits_nodes : n < 768 → not p.within ≡ false → b ≡ true → ltb st.nodes 768 ≡ node_limits st n p
+    unfolding node_limits is_node
+    limits_nodes h k q = rw (lt-ltb n 768 h, not-false p.within k, ← told, q)
+
   pub order_block : 5 < st.block → false ≡ node_order st n p
   unfolding node_order
   order_block h = rw (lt-leb st.block 5 h)

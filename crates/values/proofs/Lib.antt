@@ -15,3 +15,4 @@ mod Merging
 mod Finishing
 mod Moving
 pub mod Arithmetic
+pub mod Copying

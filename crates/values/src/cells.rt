@@ -155,12 +155,14 @@ pub fn push_copy(stack: &mut [u64], p: usize, sp: usize) -> Option<usize>
     Some(len)
 }
 
-// Copies the cells to `at`.
+// Copies the cells to `at`. It is a loop, since the archive for C would need `memmove` for `copy_from_slice`.
 pub fn copy_cells(stack: &mut [u64], at: usize, cells: &[u64])
     requires { at + length cells.now ≤ length stack.old }
     ensures { stack.new ≡ paste stack.old at cells.now (length cells.now) }
 {
-    stack[at..at + cells.len()].copy_from_slice(cells);
+    for i in 0..cells.len() {
+        stack[at + i] = cells[i];
+    }
 }
 
 // Copies the value that lies from a to e in other words to sp.

@@ -13,6 +13,8 @@ use Rattle.descent.proofs.PostfixLaws.{steps_fail, steps_end, steps_break, plain
 use Rattle.descent.proofs.BegunLaws.{primary_none, primary_one, done_further, bracket_further, room_bracket, primary_bracket, condition_further, room_condition, primary_condition, members_further, room_members, primary_members}
 use native.Mathlib.Nat.{pos_of_ne-zero}
 use Rattle.descent.proofs.LoopLaws.{room_inside, inside_fails, turn_kept, whole_ends, in_missing, body_next}
+use mathlib.Core.Path.{ap, ◌∙◌}
+use Rattle.std.specs.Prelude.{Some}
 use Rattle.descent.proofs.WaitingLaws.{waiting_start, room_waiting, waiting_few, waiting_broken, head_further, waiting_head}
 use Rattle.descent.proofs.+comparison_conjunction_disjunction_prefix_product_sum_argument_braces_condition_iteration_operand_postfix_primary_whole.Goals as goal
 
@@ -330,50 +332,47 @@ sum-loop-found-preserved t c = search level_turn
 pub whole-loop-head-init : goal.whole-loop-head-init
 whole-loop-head-init t c = search waiting_start
 
-pub whole-after-begun-requires : goal.whole-after-begun-requires
-whole-after-begun-requires t c = ((room_waiting c.loop-head.invariant c.requires).ahead, λ e. omega arith)
-
 pub whole-let_head-requires : goal.whole-let_head-requires
-whole-let_head-requires t c = ((after_further c.after-begun.ensures c.in-Some.is).ahead, (room_waiting c.loop-head.invariant c.requires).long)
+whole-let_head-requires t c = search (room_waiting, rules)
 
 pub whole-returns-in_err-u-in-Some : goal.whole-returns-in_err-u-in-Some
-whole-returns-in_err-u-in-Some t c = rw c.from_residual.ensures (waiting_broken c.loop-head.invariant c.after-begun.ensures c.in-Some.is c.let_head.ensures c.in_err-u-in-Some.was)
+whole-returns-in_err-u-in-Some t c = rw c.from_residual.ensures (waiting_broken c.loop-head.invariant c.let_head.ensures (c.in-Some.is ∙ ap Some c.in_err-u-in-Some.was))
 
 pub whole-overflow_add-lets : goal.whole-overflow_add-lets
-whole-overflow_add-lets t c = search (waiting_few, waiting_head, c.in_ok-u-in-Some.was, rules)
+whole-overflow_add-lets t c = search (waiting_few, waiting_head, c.in-Some.is ∙ ap Some c.in_ok-u-in-Some.was, rules)
 
 pub whole-overflow_add-unread : goal.whole-overflow_add-unread
-whole-overflow_add-unread t c = search (waiting_few, waiting_head, c.in_ok-u-in-Some.was, rules)
+whole-overflow_add-unread t c = search (waiting_few, waiting_head, c.in-Some.is ∙ ap Some c.in_ok-u-in-Some.was, rules)
 
 pub whole-loop-head-smaller-in-Some : goal.whole-loop-head-smaller-in-Some
-whole-loop-head-smaller-in-Some t c = omega (arith, (head_further c.loop-head.invariant c.after-begun.ensures c.in-Some.is c.let_head.ensures c.in_ok-u-in-Some.was).from, (head_further c.loop-head.invariant c.after-begun.ensures c.in-Some.is c.let_head.ensures c.in_ok-u-in-Some.was).ahead.order, (head_further c.loop-head.invariant c.after-begun.ensures c.in-Some.is c.let_head.ensures c.in_ok-u-in-Some.was).ahead.within)
+whole-loop-head-smaller-in-Some t c = let f = head_further c.loop-head.invariant c.let_head.ensures (c.in-Some.is ∙ ap Some c.in_ok-u-in-Some.was) in omega (arith, f.from, f.ahead.order, f.ahead.within)
 
 pub whole-loop-head-preserved-in-Some : goal.whole-loop-head-preserved-in-Some
-whole-loop-head-preserved-in-Some t c = waiting_head c.loop-head.invariant c.after-begun.ensures c.in-Some.is c.let_head.ensures c.in_ok-u-in-Some.was
+whole-loop-head-preserved-in-Some t c = waiting_head c.loop-head.invariant c.let_head.ensures (c.in-Some.is ∙ ap Some c.in_ok-u-in-Some.was)
 
 pub whole-disjunction-requires : goal.whole-disjunction-requires
-whole-disjunction-requires t c = (omega arith, room_inside c.loop-head.invariant c.after-begun.ensures c.in-None.is c.requires)
+whole-disjunction-requires t c = (omega arith, room_inside c.loop-head.invariant c.let_head.ensures c.in-None.is c.requires)
 
 pub whole-returns-in_err-next-in-None : goal.whole-returns-in_err-next-in-None
-whole-returns-in_err-next-in-None t c = rw c.from_residual-in_err-next-in-None.ensures (inside_fails c.loop-head.invariant c.after-begun.ensures c.in-None.is c.disjunction.ensures c.in_err-next-in-None.was)
+whole-returns-in_err-next-in-None t c = rw c.from_residual-in_err-next-in-None.ensures (inside_fails c.loop-head.invariant c.let_head.ensures c.in-None.is c.disjunction.ensures c.in_err-next-in-None.was)
 
 pub whole-close_lets-closed-requires : goal.whole-close_lets-closed-requires
-whole-close_lets-closed-requires t c = let r = room_after (room_inside c.loop-head.invariant c.after-begun.ensures c.in-None.is c.requires) (one_found c.disjunction.ensures c.in_ok-next-in-None.was) in (r.long, omega (arith, c.loop-head.invariant.least), omega (arith, found_some (one_found c.disjunction.ensures c.in_ok-next-in-None.was)), omega (arith, c.well_formed, r.few, r.ahead.order, r.ahead.within))
+whole-close_lets-closed-requires t c = let r = room_after (room_inside c.loop-head.invariant c.let_head.ensures c.in-None.is c.requires) (one_found c.disjunction.ensures c.in_ok-next-in-None.was) in (r.long, omega (arith, c.loop-head.invariant.least), omega (arith, found_some (one_found c.disjunction.ensures c.in_ok-next-in-None.was)), omega (arith, c.well_formed, r.few, r.ahead.order, r.ahead.within))
 
 pub whole-overflow_add-m : goal.whole-overflow_add-m
-whole-overflow_add-m t c = omega (arith, room_small (room_after (room_inside c.loop-head.invariant c.after-begun.ensures c.in-None.is c.requires) (one_found c.disjunction.ensures c.in_ok-next-in-None.was)))
+whole-overflow_add-m t c = omega (arith, room_small (room_after (room_inside c.loop-head.invariant c.let_head.ensures c.in-None.is c.requires) (one_found c.disjunction.ensures c.in_ok-next-in-None.was)))
 
 pub whole-returns-then-unread-eq0 : goal.whole-returns-then-unread-eq0
-whole-returns-then-unread-eq0 t c = whole_ends c.loop-head.invariant c.after-begun.ensures c.in-None.is c.disjunction.ensures c.in_ok-next-in-None.was c.close_lets-closed.ensures c.if-unread-eq0.true
+whole-returns-then-unread-eq0 t c = whole_ends c.loop-head.invariant c.let_head.ensures c.in-None.is c.disjunction.ensures c.in_ok-next-in-None.was c.close_lets-closed.ensures c.if-unread-eq0.true
 
 pub whole-after-requires : goal.whole-after-requires
 whole-after-requires t c = ((one_found c.disjunction.ensures c.in_ok-next-in-None.was).ahead, λ e. omega arith)
 
 pub whole-returns-in_err-u-in-None : goal.whole-returns-in_err-u-in-None
-whole-returns-in_err-u-in-None t c = rw c.from_residual-in_err-u-in-None.ensures (in_missing c.loop-head.invariant c.after-begun.ensures c.in-None.is c.disjunction.ensures c.in_ok-next-in-None.was c.close_lets-closed.ensures c.if-unread-eq0.false c.after.ensures c.in_err-u-in-None.was)
+whole-returns-in_err-u-in-None t c = rw c.from_residual-in_err-u-in-None.ensures (in_missing c.loop-head.invariant c.let_head.ensures c.in-None.is c.disjunction.ensures c.in_ok-next-in-None.was c.close_lets-closed.ensures c.if-unread-eq0.false c.after.ensures c.in_err-u-in-None.was)
 
 pub whole-end_value-requires : goal.whole-end_value-requires
-whole-end_value-requires t c = omega (arith, c.requires.long, (turn_kept c.loop-head.invariant c.after-begun.ensures c.in-None.is c.disjunction.ensures c.in_ok-next-in-None.was c.close_lets-closed.ensures).size)
+whole-end_value-requires t c = omega (arith, c.requires.long, (turn_kept c.loop-head.invariant c.let_head.ensures c.in-None.is c.disjunction.ensures c.in_ok-next-in-None.was c.close_lets-closed.ensures).size)
 
 pub whole-overflow_sub-unread : goal.whole-overflow_sub-unread
 whole-overflow_sub-unread t c = search pos_of_ne-zero
@@ -382,4 +381,4 @@ pub whole-loop-head-smaller : goal.whole-loop-head-smaller
 whole-loop-head-smaller t c = omega (arith, found_further (one_found c.disjunction.ensures c.in_ok-next-in-None.was), (after_further c.after.ensures c.in_ok-u-in-None.was).from, (after_further c.after.ensures c.in_ok-u-in-None.was).ahead.order, (after_further c.after.ensures c.in_ok-u-in-None.was).ahead.within)
 
 pub whole-loop-head-preserved : goal.whole-loop-head-preserved
-whole-loop-head-preserved t c = body_next c.loop-head.invariant c.after-begun.ensures c.in-None.is c.disjunction.ensures c.in_ok-next-in-None.was c.close_lets-closed.ensures c.if-unread-eq0.false c.after.ensures c.in_ok-u-in-None.was c.end_value.ensures
+whole-loop-head-preserved t c = body_next c.loop-head.invariant c.let_head.ensures c.in-None.is c.disjunction.ensures c.in_ok-next-in-None.was c.close_lets-closed.ensures c.if-unread-eq0.false c.after.ensures c.in_ok-u-in-None.was c.end_value.ensures

@@ -14,6 +14,6 @@ returns g c =
     on_ok_weaker c.write_all.result (λ w. (
       a.0,
       left,
-      record { n = c.in_ok-end.end; out = c.answer_input.new.out; answers = a.2; is = refl },
-      subst (Appends _ _) (append_assoc c.args.name.now (10 ∷ []) left) (Appends-trans _ _ _ _ _ c.in_ok-writeln.ensures.bytes w),
+      record { n = c.in_ok-end.end; out = c.answer_input.new.out; answers = a.3; is = refl },
+      subst (Appends _ _) (append_assoc c.args.name.now (10 ∷ []) left) (Appends-trans _ _ _ _ _ c.in_ok-write_line.ensures w),
     )) c.write_all.ensures.bytes
