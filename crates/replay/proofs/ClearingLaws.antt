@@ -22,6 +22,7 @@ use Rattle.text.specs.Parts.{Cut}
 use Rattle.text.specs.declared.parts.Fields.{Fields}
 use Rattle.text.proofs.NumberLaws.{num_bad}
 use Rattle.text.proofs.PartLaws.{counted_exact}
+use Rattle.text.proofs.WordLaws.{same_bytes}
 use Rattle.tables.specs.declared.Counts.{Counts}
 use Rattle.tables.specs.Layout.{tab, Holds, Fine}
 use Rattle.tables.proofs.Tables.{kept_refl}
@@ -38,11 +39,7 @@ use Rattle.memory.specs.declared.refusals.Refusal.TheVariants.{BadLine, OverMeas
 -- ---- the line
 
 same_word : (z w : Bytes) → pointwise eqb z w ≡ is z w
-unfolding is
-same_word [] [] = refl
-same_word [] (c ∷ w) = refl
-same_word (b ∷ z) [] = refl
-same_word (b ∷ z) (c ∷ w) = ap (λ (t : Bool). eqb b c && t) (same_word z w)
+same_word = same_bytes
 
 module _ {line : Bytes} {f : Fields} (cut : Cut line f) where
   pub clears_count : (f.count ≡ 4 → ⊥) → eqb f.count 4 ≡ clears_line (fields_of line)

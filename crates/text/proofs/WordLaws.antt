@@ -6,6 +6,7 @@ use mathlib.Core.List.{List, [], ◌∷◌}
 use native.Mathlib.Omega.{arith}
 use borrow.Author.Tests.{eq-eqb, ne_eqb, eqb-true, lt-leb, le-leb}
 use lib.Dec.{eqb, leb}
+use lib.Pointwise.{pointwise}
 use lib.ListN.{length, get_or, drop, drop_of_length-le}
 use Rattle.std.specs.Prelude.{if◌then◌else◌}
 use Rattle.laws.specs.Lists.{all_of}
@@ -124,6 +125,14 @@ other_length (b ∷ s) (c ∷ t) h = go (eqb b c) (other_length s t (λ e. h (ap
     go : (u : Bool) → false ≡ is s t → false ≡ (u && is s t)
     go true q = q
     go false q = refl
+
+-- what `==` of two slices says
+pub same_bytes : (f w : Bytes) → pointwise eqb f w ≡ is f w
+unfolding is
+same_bytes [] [] = refl
+same_bytes [] (c ∷ t) = refl
+same_bytes (b ∷ s) [] = refl
+same_bytes (b ∷ s) (c ∷ t) = ap (λ u. eqb b c && u) (same_bytes s t)
 
 -- the turns of `same`
 module _ (f w : Bytes) (i : ℕ) (long : length f ≡ length w) (inv : is (drop i f) (drop i w) ≡ is f w) where
